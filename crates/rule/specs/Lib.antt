@@ -1,1 +1,5 @@
+pub mod Coins
+pub mod Digits
 pub mod Meaning
+pub mod Pegs
+pub mod Table
