@@ -50,7 +50,7 @@ kept f [] = []
 kept f (x ∷ xs) = cond (f x) (x ∷ kept f xs) (kept f xs)
 
 -- the answers of p pegs, as pairs of black and white, in their order
-abbrev pub pairs : ℕ → List (ℕ × ℕ)
+unfoldable pub pairs : ℕ → List (ℕ × ℕ)
 pairs p = kept (possible p) (by-black p 0 (suc p))
 
 -- how many members stand before the first that is the pair (b, w)
