@@ -15,8 +15,8 @@ use Rattle.std.proofs.shelf.Lists.{getD-set-same, getD-set-other, getD-replicat
 use Rattle.std.proofs.shelf.Tests.{cases-eq}
 use Rattle.rule.specs.Digits.{digits, tally, occurs, total}
 use Rattle.rule.specs.Pegs.{equal-places, shared}
-use Rattle.rule.proofs.Rows.{length-digits}
-use Rattle.rule.proofs.Totals.{tally-same, tally-other, total-same}
+use Rattle.rule.specs.laws.Rows.{length-digits}
+use Rattle.rule.specs.laws.Totals.{tally-same, tally-other, total-same}
 
 -- what is left of n once its last j digits in base b are taken
 abbrev pub Rest : ℕ → ℕ → ℕ → ℕ → Type 0

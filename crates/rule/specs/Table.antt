@@ -1,7 +1,7 @@
 -- The game given by a table of its answers. Assumes nothing.
 use mathlib.Core.Bool.{Bool, true, false, cond, _&&_}
 use mathlib.Core.List.{List, [], _∷_}
-use Prim.Native.Nat.{ℕ, _+_, _*_}
+use Prim.Native.Nat.{ℕ, _+_, _*_, min, max}
 use lib.Dec.{eqb, leb, ltb}
 use lib.ListN.{length, getD}
 use Rattle.rule.specs.Meaning.{Meaning}
@@ -27,4 +27,28 @@ table rows codes a bytes = record {
   answers = a;
   naming = false;
   answer = λ code guess. cond (ltb code codes && ltb guess rows) (getD bytes (guess * codes + code) 0) a;
+}
+
+-- the number nearest to n from low to high
+abbrev pub nearest : ℕ → ℕ → ℕ → ℕ
+nearest low high n = min (max n low) high
+
+-- a byte that is no answer counts as 0
+abbrev pub as-answer : ℕ → ℕ → ℕ
+as-answer a byte = cond (ltb byte a) byte 0
+
+-- What any sizes and bytes mean, so that the law holds of them all: a size out of range counts as the nearest in range,
+-- a byte that is no answer or is missing counts as 0. For a table that fits this is the game above.
+abbrev pub any-table : ℕ → ℕ → ℕ → List ℕ → Meaning
+any-table rows codes a bytes = record {
+  code-bound = nearest 2 16384 codes;
+  guess-bound = nearest 1 4096 rows;
+  is-code = λ code. ltb code (nearest 2 16384 codes);
+  admits = λ guess. ltb guess (nearest 1 4096 rows);
+  answers = nearest 2 64 a;
+  naming = false;
+  answer = λ code guess.
+      cond (ltb code (nearest 2 16384 codes) && ltb guess (nearest 1 4096 rows))
+      (as-answer (nearest 2 64 a) (getD bytes (guess * nearest 2 16384 codes + code) 0))
+      (nearest 2 64 a);
 }

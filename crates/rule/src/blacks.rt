@@ -4,6 +4,7 @@ ghost use mathlib.Core.Path.{_≡_};
 ghost use Rattle.fault.specs.declared.Check.the-variants.{GameParameters};
 ghost use Rattle.fault.specs.Faults.{refusal};
 ghost use Rattle.rule.specs.Pegs.{board-fits, blacks as black-game};
+ghost use Rattle.rule.specs.laws.Kept.{blacks-rule};
 ghost use Rattle.rule.specs.Rules.{blacks-of};
 ghost use Rattle.std.specs.Results.{Cases};
 use crate::board::Board;
@@ -29,6 +30,8 @@ impl Blacks {
 
 pub impl AnswerRule for Blacks as BlacksRule {
     ghost meaning = { blacks-of };
+
+    ghost lawful = { blacks-rule };
 
     fn code_bound(&self) -> u32 {
         self.board.rows()

@@ -6,6 +6,7 @@ ghost use Rattle.fault.specs.declared.Check.the-variants.{GameParameters};
 ghost use Rattle.fault.specs.Faults.{refusal};
 ghost use Rattle.rule.specs.Coins.{coins-fit, coins as coin-game, is-weighing};
 ghost use Rattle.rule.specs.Digits.{digits, occurs};
+ghost use Rattle.rule.specs.laws.Kept.{coins-rule};
 ghost use Rattle.rule.specs.Rules.{coins-of};
 ghost use Rattle.std.specs.Results.{Cases};
 use crate::interface::AnswerRule;
@@ -36,6 +37,8 @@ impl Coins {
 
 pub impl AnswerRule for Coins as CoinsRule {
     ghost meaning = { coins-of };
+
+    ghost lawful = { coins-rule };
 
     fn code_bound(&self) -> u32 {
         2 * self.set.coins()

@@ -6,7 +6,8 @@ ghost use Rattle.rule.specs.Meaning.{Meaning, Lawful};
 pub trait AnswerRule {
     ghost meaning: { Self → Meaning };
 
-    law lawful: { (rule : Self) → Lawful (meaning rule) };
+    // What each rule must prove.
+    ghost lawful: { (rule : Self) → Lawful (meaning rule) };
 
     // Codes lie below this number, which is from 1 to 16,384.
     fn code_bound(&self) -> u32

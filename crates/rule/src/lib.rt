@@ -5,6 +5,7 @@ mod coins;
 mod interface;
 mod pegs;
 mod set;
+mod table;
 
 pub use blacks::Blacks;
 pub use blacks::BlacksRule;
@@ -13,3 +14,5 @@ pub use coins::CoinsRule;
 pub use interface::AnswerRule;
 pub use pegs::Pegs;
 pub use pegs::PegsRule;
+pub use table::Table;
+pub use table::TableRule;

@@ -4,6 +4,7 @@ ghost use mathlib.Core.Path.{_≡_};
 ghost use Rattle.fault.specs.declared.Check.the-variants.{GameParameters};
 ghost use Rattle.fault.specs.Faults.{refusal};
 ghost use Rattle.rule.specs.Pegs.{board-fits, pegs as peg-game};
+ghost use Rattle.rule.specs.laws.Kept.{pegs-rule};
 ghost use Rattle.rule.specs.Rules.{pegs-of};
 ghost use Rattle.std.specs.Results.{Cases};
 use crate::board::Board;
@@ -29,6 +30,8 @@ impl Pegs {
 
 pub impl AnswerRule for Pegs as PegsRule {
     ghost meaning = { pegs-of };
+
+    ghost lawful = { pegs-rule };
 
     fn code_bound(&self) -> u32 {
         self.board.rows()

@@ -5,7 +5,7 @@ use lib.Dec.{eqb}
 use borrow.Author.Needs.{needs}
 use Rattle.rule.specs.Digits.{digits}
 use Rattle.rule.proofs.Counts.{rest-start, rest-more, equal-more, byte-tally, tally-le}
-use Rattle.rule.proofs.Rows.{equal-le, length-digits}
+use Rattle.rule.specs.laws.Rows.{equal-le, length-digits}
 use Rattle.rule.proofs.board.Board.black.Needs as need
 
 pub loop-done-holds : need.loop-done-holds

@@ -7,7 +7,7 @@ use Rattle.std.proofs.shelf.Bits.{mod-below}
 use Rattle.rule.specs.Digits.{digits}
 use Rattle.rule.specs.Pegs.{equal-places, shared}
 use Rattle.rule.proofs.Counts.{rest-start, rest-more, counted-start, counted-more, counted-le, counted-shared, equal-more, byte-tally, tally-le}
-use Rattle.rule.proofs.Rows.{digits-below, equal-le, equal-le-shared, length-digits, shared-le}
+use Rattle.rule.specs.laws.Rows.{digits-below, equal-le, equal-le-shared, length-digits, shared-le}
 use Rattle.rule.proofs.board.Board.compare.Needs as need
 
 pub loop-done-holds : need.loop-done-holds

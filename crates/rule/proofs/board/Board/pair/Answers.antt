@@ -1,6 +1,6 @@
 use native.Mathlib.Omega.{arith}
 use borrow.Author.Needs.{needs}
-use Rattle.rule.proofs.PegLaws.{compared}
+use Rattle.rule.specs.laws.PegLaws.{compared}
 use Rattle.rule.proofs.board.Board.pair.Needs as need
 
 pub sub-before : need.sub-before

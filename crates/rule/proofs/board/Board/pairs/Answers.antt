@@ -3,7 +3,7 @@ use Prim.Native.Nat.{_+_}
 use native.Mathlib.Omega.{arith}
 use borrow.Author.Needs.{needs}
 use Rattle.std.proofs.shelf.Bits.{mul-lt}
-use Rattle.rule.proofs.Pairs.{counted}
+use Rattle.rule.specs.laws.Pairs.{counted}
 use Rattle.rule.proofs.board.Board.pairs.Needs as need
 
 pub mul-result : need.mul-result

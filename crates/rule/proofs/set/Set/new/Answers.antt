@@ -1,5 +1,5 @@
 use native.Mathlib.Omega.{arith}
-use Rattle.rule.proofs.CoinLaws.{three-power}
+use Rattle.rule.specs.laws.CoinLaws.{three-power}
 use Rattle.rule.proofs.set.Set.new.Needs as need
 
 pub pow-requires : need.pow-requires

@@ -2,8 +2,8 @@ use mathlib.Core.Path.{_≡_, sym, ap, _∙_}
 use Prim.Native.Nat.{_-_, _/_, _%_, _^_}
 use native.Mathlib.Omega.{arith}
 use Rattle.std.proofs.shelf.Bits.{mod-below}
-use Rattle.rule.proofs.CoinLaws.{getD-digits, three-power}
-use Rattle.rule.proofs.Rows.{power-positive}
+use Rattle.rule.specs.laws.CoinLaws.{getD-digits, three-power}
+use Rattle.rule.specs.laws.Rows.{power-positive}
 use Rattle.rule.proofs.set.Set.pan.Needs as need
 
 pub pow-requires : need.pow-requires

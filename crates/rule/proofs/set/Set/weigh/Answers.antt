@@ -1,6 +1,6 @@
 use mathlib.Core.Path.{sym, _∙_}
 use native.Mathlib.Omega.{arith}
-use Rattle.rule.proofs.CoinLaws.{heavy-code, light-aside, light-weighed}
+use Rattle.rule.specs.laws.CoinLaws.{heavy-code, light-aside, light-weighed}
 use Rattle.rule.proofs.set.Set.weigh.Needs as need
 
 pub returns-then-code-eq0 : need.returns-then-code-eq0

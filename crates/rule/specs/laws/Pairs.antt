@@ -8,7 +8,7 @@ use lib.ListN.{length}
 use Rattle.std.proofs.shelf.Tests.{and-parts, both-ways, eqb-true, leb-true, ltb-true, eq-eqb, le-leb}
 use Rattle.rule.specs.Digits.{tally, all-below}
 use Rattle.rule.specs.Pegs.{pairs, position, possible}
-use Rattle.rule.proofs.Below.{all-below-at}
+use Rattle.rule.specs.laws.Below.{all-below-at}
 
 -- the position of a pair, reckoned from its black and white
 abbrev pub place : ℕ → ℕ → ℕ → ℕ

@@ -13,7 +13,7 @@ use Rattle.std.proofs.shelf.Tests.{and-parts, and-from, both-ways, ltb-true, eq
 use Rattle.rule.specs.Coins.{weight, load, balance, is-weighing, weighed, coins}
 use Rattle.rule.specs.Digits.{digits, tally, occurs}
 use Rattle.rule.specs.Meaning.{Meaning, Lawful}
-use Rattle.rule.proofs.Rows.{length-digits, power-positive}
+use Rattle.rule.specs.laws.Rows.{length-digits, power-positive}
 
 -- under a code the false coin is f and weighs h, and every other coin weighs 2
 pub record False (code f h : ℕ) : Type 0 where

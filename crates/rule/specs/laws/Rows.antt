@@ -13,7 +13,7 @@ use Rattle.std.proofs.shelf.Bits.{mod-below, mul-lt}
 use Rattle.std.proofs.shelf.Tests.{eq-eqb, ne-eqb, eqb-true, cases-eq}
 use Rattle.rule.specs.Digits.{digits, tally, occurs, total}
 use Rattle.rule.specs.Pegs.{equal-places, shared, white}
-use Rattle.rule.proofs.Totals.{total-add, total-same, total-le, total-zero, total-one, tally-same, tally-other}
+use Rattle.rule.specs.laws.Totals.{total-add, total-same, total-le, total-zero, total-one, tally-same, tally-other}
 
 -- every digit of the row is below b
 abbrev pub Below : ℕ → List ℕ → Type 0

@@ -11,8 +11,8 @@ use Rattle.std.proofs.shelf.Tests.{and-parts, eq-eqb, and-from, and-left, and-r
 use Rattle.rule.specs.Digits.{digits, tally}
 use Rattle.rule.specs.Meaning.{Meaning, Lawful}
 use Rattle.rule.specs.Pegs.{is-row, equal-places, shared, white, pairs, position, possible, peg-answer, pegs, blacks}
-use Rattle.rule.proofs.Pairs.{place, Placed, placed, counted}
-use Rattle.rule.proofs.Rows.{digits-below, length-digits, equal-le, equal-le-shared, shared-le, one-off, same-equal, all-equal, same-number, power-positive}
+use Rattle.rule.specs.laws.Pairs.{place, Placed, placed, counted}
+use Rattle.rule.specs.laws.Rows.{digits-below, length-digits, equal-le, equal-le-shared, shared-le, one-off, same-equal, all-equal, same-number, power-positive}
 
 module _ (p c : ℕ) (some : 1 ≤ p) (few : p < 7) (colours : 2 ≤ c) where
   abbrev black : ℕ → ℕ → ℕ
