@@ -16,3 +16,5 @@ pub use pegs::Pegs;
 pub use pegs::PegsRule;
 pub use table::Table;
 pub use table::TableRule;
+pub use table::all_answers;
+pub use table::byte_at;

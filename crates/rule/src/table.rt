@@ -53,11 +53,11 @@ fn fits(bytes: &[u8], rows: u32, codes: u32, answers: u8) -> bool
         && bytes.len() == (rows * codes) as usize
         && answers >= 2
         && answers <= 64
-        && under(bytes, answers)
+        && all_answers(bytes, answers)
 }
 
-// Whether each byte is an answer.
-fn under(bytes: &[u8], answers: u8) -> bool
+// Whether each byte is below a number of answers.
+pub fn all_answers(bytes: &[u8], answers: u8) -> bool
     ensures { λ r. ⌜ r ≡ all-under answers (now (bytes .entry)) ⌝ }
 {
     for byte in bytes {
@@ -69,7 +69,7 @@ fn under(bytes: &[u8], answers: u8) -> bool
 }
 
 // The byte at a place, or 0 past the last.
-fn byte_at(bytes: &[u8], place: usize) -> u8
+pub fn byte_at(bytes: &[u8], place: usize) -> u8
     ensures { λ r. ⌜ r ≡ getD (now (bytes .entry)) place 0 ⌝ }
 {
     if place < bytes.len() { bytes[place] } else { 0 }

@@ -10,14 +10,14 @@ use Rattle.std.proofs.shelf.Tests.{and-parts, and-from, both-ways, leb-true, lt
 use Rattle.rule.specs.Meaning.{Lawful}
 use Rattle.rule.specs.Table.{all-under, table-fits, table, nearest, as-answer, any-table}
 
-nearest-is : (low high n : ℕ) → low ≤ n → n ≤ high → nearest low high n ≡ n
+pub nearest-is : (low high n : ℕ) → low ≤ n → n ≤ high → nearest low high n ≡ n
 nearest-is low high n l h = omega arith
 
 missing : (a : ℕ) → as-answer a 0 ≡ 0
 missing a = elim (ltb 0 a) as (λ b. _≡_ {A = ℕ} (cond b 0 0) 0) [ true ↦ refl | false ↦ refl ]
 
 -- each byte counts as itself
-each-byte : (a : ℕ) (bytes : List ℕ) → all-under a bytes ≡ true → (i : ℕ) → as-answer a (getD bytes i 0) ≡ getD bytes i 0
+pub each-byte : (a : ℕ) (bytes : List ℕ) → all-under a bytes ≡ true → (i : ℕ) → as-answer a (getD bytes i 0) ≡ getD bytes i 0
 each-byte a [] h i = missing a
 each-byte a (x ∷ xs) h zero = cond-true (ltb x a) x 0 (and-parts (ltb x a) (all-under a xs) h .0)
 each-byte a (x ∷ xs) h (suc i) = each-byte a xs (and-parts (ltb x a) (all-under a xs) h .1) i
@@ -54,7 +54,7 @@ any-is rows codes a bytes h =
       answer = λ code guess. cond (ltb code codes && ltb guess rows) (each-byte a bytes (p8 .1) (guess * codes + code) i) a;
     })
 
-answer-under : (a byte : ℕ) → 2 ≤ a → as-answer a byte < a
+pub answer-under : (a byte : ℕ) → 2 ≤ a → as-answer a byte < a
 answer-under a byte some = cond-both (ltb byte a) byte 0 (λ x. x < a) (ltb-true byte a) (λ _. omega arith)
 
 pub any-lawful : (rows codes a : ℕ) (bytes : List ℕ) → Lawful (any-table rows codes a bytes)

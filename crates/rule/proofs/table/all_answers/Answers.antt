@@ -7,7 +7,7 @@ use lib.ListN.{getD, drop}
 use Rattle.std.proofs.shelf.Lists.{at-drop-more, at-drop-all}
 use Rattle.std.proofs.shelf.Tests.{and-left, le-ltb, lt-ltb}
 use Rattle.rule.specs.Table.{all-under}
-use Rattle.rule.proofs.table.under.Needs as need
+use Rattle.rule.proofs.table.all_answers.Needs as need
 
 pub returns-then-byte-answers : need.returns-then-byte-answers
 returns-then-byte-answers c =

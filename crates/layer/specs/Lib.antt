@@ -1,0 +1,4 @@
+pub mod Blur
+pub mod Hints
+pub mod Notes
+pub mod laws
