@@ -37,7 +37,7 @@ blurred below bytes b = resent below b (λ a. getD bytes a 0)
 abbrev pub short-of-win : Bool → ℕ → ℕ → ℕ
 short-of-win naming b byte = cond (naming && eqb byte (b - 1)) 0 byte
 
--- where an answer goes whatever the bytes are: a byte that is no answer counts as 0, and over a naming game the win
+-- where an answer goes whatever the bytes are: a byte that is no answer counts as 0; where the game below names, its win
 -- goes to the win and any other answer that its byte would send there goes to 0
 abbrev pub sent : Meaning → List ℕ → ℕ → ℕ → ℕ
 sent below bytes b a = cond (below .naming && eqb a (win below)) (b - 1) (short-of-win (below .naming) b (as-answer b (getD bytes a 0)))

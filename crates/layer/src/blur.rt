@@ -1,7 +1,7 @@
 // The blur layer: the rule below, with its answers told more coarsely.
 ghost use mathlib.Core.Bool.{true, false, Bool·beq};
 ghost use mathlib.Core.Path.{_≡_};
-ghost use Prim.Native.Nat.{_-_};
+ghost use Prim.Native.Nat.{ℕ, _-_, _≤_};
 ghost use lib.Dec.{eqb};
 ghost use lib.ListN.{length, getD};
 ghost use Rattle.fault.specs.declared.Check.the-variants.{BlurTable};
@@ -19,9 +19,9 @@ use rule::all_answers;
 use rule::byte_at;
 
 #[derive(Drop)]
-pub struct Blur<'a, R> {
+pub struct Blur<R> {
     below: R,
-    bytes: &'a [u8],
+    sends: [u8; 64],
     answers: u8,
 }
 
@@ -32,19 +32,19 @@ pub struct Returned<R> {
     pub below: R,
 }
 
-impl<'a, R: AnswerRule> Blur<'a, R> {
-    // Each answer of the rule below is sent to the one that its byte names. The bytes stay the caller's.
-    pub fn new(below: R, bytes: &'a [u8], answers: u8) -> Result<Blur<'a, R>, Returned<R>>
+impl<R: AnswerRule> Blur<R> {
+    // Each answer of the rule below is sent to the one that its byte names.
+    pub fn new(below: R, bytes: &[u8], answers: u8) -> Result<Blur<R>, Returned<R>>
         ensures { λ r. ⌜ Cases r
             (λ layer. (blur-fits (R·AnswerRule .meaning below) (now (bytes .entry)) answers ≡ true)
-            × (any-blur (R·AnswerRule .meaning (layer .below)) (now (layer .bytes)) (layer .answers) ≡ blurred (R·AnswerRule .meaning below) (now (bytes .entry)) answers)
+            × (any-blur (R·AnswerRule .meaning (layer .below)) (layer .sends) (layer .answers) ≡ blurred (R·AnswerRule .meaning below) (now (bytes .entry)) answers)
             × (layer .below ≡ below))
             (λ back. (blur-fits (R·AnswerRule .meaning below) (now (bytes .entry)) answers ≡ false) × (back .fault ≡ refusal BlurTable) × (back .below ≡ below)) ⌝ }
     {
         if fits(&below, bytes, answers) {
             Ok(Blur {
                 below,
-                bytes,
+                sends: padded(bytes),
                 answers,
             })
         } else {
@@ -57,20 +57,32 @@ impl<'a, R: AnswerRule> Blur<'a, R> {
 
     // Where an answer of the rule below goes.
     fn send(&self, answer: u8) -> u8
-        ensures { λ r. ⌜ r ≡ sent (R·AnswerRule .meaning (now (self .entry) .below)) (now (now (self .entry) .bytes)) (nearest 2 64 (now (self .entry) .answers)) answer ⌝ }
+        ensures { λ r. ⌜ r ≡ sent (R·AnswerRule .meaning (now (self .entry) .below)) (now (self .entry) .sends) (nearest 2 64 (now (self .entry) .answers)) answer ⌝ }
     {
         let naming = self.below.is_naming();
         let last = self.answers.max(2).min(64) - 1;
         if naming && answer == self.below.answers() - 1 {
             return last;
         }
-        let byte = byte_at(self.bytes, answer as usize);
+        let byte = byte_at(&self.sends, answer as usize);
         if byte > last || naming && byte == last {
             0
         } else {
             byte
         }
     }
+}
+
+// The bytes, and zeros after them.
+fn padded(bytes: &[u8]) -> [u8; 64]
+    requires { ⌜ length (now bytes) ≤ 64 ⌝ }
+    ensures { λ r. ⌜ ((a : ℕ) → getD r a 0 ≡ getD (now (bytes .entry)) a 0) ⌝ }
+{
+    let mut sends = [0u8; 64];
+    for (at, byte) in bytes.iter().enumerate() {
+        sends[at] = *byte;
+    }
+    sends
 }
 
 // Whether bytes can blur a rule to so many answers.
@@ -96,10 +108,10 @@ fn wins_alone(bytes: &[u8], win: u8) -> bool
     true
 }
 
-pub impl<'a, R: AnswerRule> AnswerRule for Blur<'a, R> as BlurRule {
-    ghost meaning = { λ layer. any-blur (R·AnswerRule .meaning (layer .below)) (layer .bytes .now) (layer .answers) };
+pub impl<R: AnswerRule> AnswerRule for Blur<R> as BlurRule {
+    ghost meaning = { λ layer. any-blur (R·AnswerRule .meaning (layer .below)) (layer .sends) (layer .answers) };
 
-    ghost lawful = { λ layer. any-blur-lawful (R·AnswerRule .meaning (layer .below)) (R·AnswerRule .lawful (layer .below)) (layer .bytes .now) (layer .answers) };
+    ghost lawful = { λ layer. any-blur-lawful (R·AnswerRule .meaning (layer .below)) (R·AnswerRule .lawful (layer .below)) (layer .sends) (layer .answers) };
 
     fn code_bound(&self) -> u32 {
         self.below.code_bound()

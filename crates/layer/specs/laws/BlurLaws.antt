@@ -135,3 +135,9 @@ module _ (below : Meaning) (law : Lawful below) (bytes : List ℕ) (b : ℕ) (fi
         naming = below .naming;
         answer = λ c g. same-answer c g i;
       })
+
+-- only the bytes that are read matter
+pub same-blur : (below : Meaning) (xs ys : List ℕ) (b : ℕ) → ((a : ℕ) → getD xs a 0 ≡ getD ys a 0) → any-blur below xs b ≡ any-blur below ys b
+same-blur below xs ys b same i =
+    resent below (nearest 2 64 b)
+    (λ a. cond (below .naming && eqb a (win below)) (nearest 2 64 b - 1) (short-of-win (below .naming) (nearest 2 64 b) (as-answer (nearest 2 64 b) (same a i))))
