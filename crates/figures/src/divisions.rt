@@ -1,5 +1,7 @@
 // How a first guess divides the codes: for each answer, how many codes give it.
 ghost use mathlib.Core.Path.{_≡_};
+ghost use Prim.Native.Nat.{ℕ, _<_};
+ghost use lib.ListN.{getD};
 ghost use Rattle.figures.specs.Counts.{that-answer};
 use crate::coins::weighing;
 use crate::notation::PegGame;
@@ -7,7 +9,6 @@ use crate::report::Stop;
 use crate::report::StopFromFault;
 use crate::report::StopFromIo;
 use crate::report::Tally;
-use crate::report::VerdictDisplay;
 use rule::AnswerRule;
 use rule::Coins;
 use rule::CoinsRule;
@@ -25,7 +26,18 @@ pub fn count_that_answer<R: AnswerRule>(rule: &R, guess: u32, answer: u8) -> u32
     count
 }
 
-// A printed row beside the computed one, both by rising answers; print has them from the last answer to the first.
+// How a guess divides the codes: at each answer's place, how many codes have it. No game has more answers than places here.
+pub fn divide<R: AnswerRule>(rule: &R, guess: u32) -> [u32; 64]
+    ensures { λ r. ⌜ ((a : ℕ) → a < 64 → getD r a 0 ≡ that-answer (meaning (now (rule .entry))) guess a) ⌝ }
+{
+    let mut division = [0u32; 64];
+    for answer in 0..64usize {
+        division[answer] = count_that_answer(rule, guess, answer as u8);
+    }
+    division
+}
+
+// The rows go by rising answers; print has them from the last answer to the first.
 fn score<R: AnswerRule>(
     rt: &LibcRuntime,
     tally: &mut Tally,
@@ -34,23 +46,7 @@ fn score<R: AnswerRule>(
     guess: u32,
     printed: &[u32],
 ) -> Result<(), Stop> {
-    print!(rt, "  {name}: printed ")?;
-    for count in printed {
-        print!(rt, " {count}")?;
-    }
-    println!(rt, "")?;
-    let before = *tally;
-    print!(rt, "  {name}: computed")?;
-    let mut answer = 0u8;
-    for expected in printed {
-        let count = count_that_answer(rule, guess, answer);
-        let _ = tally.compare(*expected, count);
-        print!(rt, " {count}")?;
-        answer = answer.saturating_add(1);
-    }
-    let verdict = tally.since(before);
-    println!(rt, ": {verdict}")?;
-    Ok(())
+    tally.compare_rows(rt, name, printed, &divide(rule, guess))
 }
 
 // The division of the codes of four pegs by a guess.

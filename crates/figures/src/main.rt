@@ -6,6 +6,7 @@ mod games;
 mod notation;
 mod pairs;
 mod pegs;
+mod places;
 mod refusals;
 mod report;
 
@@ -22,6 +23,7 @@ fn main(rt: LibcRuntime) -> Result<(), Stop> {
     coins::show(&rt, &mut tally)?;
     divisions::show(&rt, &mut tally)?;
     refusals::show(&rt, &mut tally)?;
+    places::show(&rt, &mut tally)?;
     let rows = house_figures();
     println!(rt, "House figures proved: {rows}")?;
     tally.show(&rt)

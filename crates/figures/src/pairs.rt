@@ -1,8 +1,7 @@
 // Black and white as a pair, and the answer that stands for it.
+ghost use mathlib.Core.Path.{_≡_};
+ghost use Rattle.rule.specs.Pegs.{possible as can-come};
 use std::fmt;
-
-// Stands for the answer of a pair that cannot come.
-pub const NO_ANSWER: u8 = 255;
 
 #[derive(Clone, Copy)]
 pub struct Pair {
@@ -19,7 +18,9 @@ pub impl fmt::Display for Pair as PairDisplay {
 }
 
 // Whether so many pegs can be answered so. With all but one peg in place, the last cannot be of a right colour elsewhere.
-fn possible(pegs: u8, black: u8, white: u8) -> bool {
+fn possible(pegs: u8, black: u8, white: u8) -> bool
+    ensures { λ r. ⌜ r ≡ can-come pegs (black, white) ⌝ }
+{
     let all = u32::from(pegs);
     let placed = u32::from(black);
     let elsewhere = u32::from(white);
@@ -27,18 +28,18 @@ fn possible(pegs: u8, black: u8, white: u8) -> bool {
 }
 
 impl Pair {
-    // The answer that stands for this pair: how many pairs that can come are before it, by rising black and then white.
-    pub fn answer(self, pegs: u8) -> u8 {
+    // The answer that stands for this pair, if it can come: how many pairs that can come are before it, by rising black and then white.
+    pub fn answer(self, pegs: u8) -> Option<u8> {
         let mut before = 0u8;
         for black in 0..7u8 {
             for white in 0..7u8 {
                 if black == self.black && white == self.white && possible(pegs, black, white) {
-                    return before;
+                    return Some(before);
                 }
                 before = before.saturating_add(u8::from(possible(pegs, black, white)));
             }
         }
-        NO_ANSWER
+        None
     }
 
     // The pair that an answer stands for; none where it is no answer.
@@ -46,7 +47,7 @@ impl Pair {
         for black in 0..7u8 {
             for white in 0..7u8 {
                 let pair = Pair { black, white };
-                if answer < NO_ANSWER && pair.answer(pegs) == answer {
+                if pair.answer(pegs) == Some(answer) {
                     return Some(pair);
                 }
             }

@@ -21,8 +21,7 @@ fn score(
     printed: Pair,
 ) -> Result<(), Stop> {
     let computed = game.answer(code, guess);
-    let expected = printed.answer(game.pegs);
-    let verdict = tally.compare(u32::from(expected), u32::from(computed));
+    let verdict = tally.count(printed.answer(game.pegs) == Some(computed));
     print!(
         rt,
         "  code {code}, guess {guess}: printed {printed}; computed answer {computed}"

@@ -90,6 +90,30 @@ impl Tally {
         }
     }
 
+    // Prints a printed row above the computed one and compares them place by place, as far as print goes.
+    pub fn compare_rows(
+        &mut self,
+        rt: &LibcRuntime,
+        name: &str,
+        printed: &[u32],
+        computed: &[u32],
+    ) -> Result<(), Stop> {
+        print!(rt, "  {name}: printed ")?;
+        for figure in printed {
+            print!(rt, " {figure}")?;
+        }
+        println!(rt, "")?;
+        let before = *self;
+        print!(rt, "  {name}: computed")?;
+        for (expected, figure) in printed.iter().zip(computed.iter()) {
+            let _ = self.compare(*expected, *figure);
+            print!(rt, " {figure}")?;
+        }
+        let verdict = self.since(before);
+        println!(rt, ": {verdict}")?;
+        Ok(())
+    }
+
     pub fn show(&self, rt: &LibcRuntime) -> Result<(), Stop> {
         let agree = self.agree;
         let differ = self.differ;

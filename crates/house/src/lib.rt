@@ -1,4 +1,4 @@
-// The house figures: answers that the games are known by, proved from what the games mean.
+// The house figures: answers that the games are known by and how many codes guesses can find, proved from what the games mean.
 ghost use mathlib.Core.Path.{_≡_};
 ghost use lib.ListN.{length};
 ghost use Rattle.house.specs.Figures.{figures, EveryFigure};
@@ -8,5 +8,5 @@ pub fn house_figures() -> usize
     ensures rows { λ r. ⌜ r ≡ length figures ⌝ }
     ensures every { λ _. ⌜ EveryFigure ⌝ }
 {
-    8
+    18
 }
