@@ -62,11 +62,11 @@ fn pan(coins: u32, on: &[u32], digit: u32) -> u32 {
 }
 
 // The number of the weighing of some coins, counted from 1, against others.
-pub fn weighing(coins: u32, left: &[u32], right: &[u32]) -> u32 {
+pub(crate) fn weighing(coins: u32, left: &[u32], right: &[u32]) -> u32 {
     pan(coins, left, 1).saturating_add(pan(coins, right, 2))
 }
 
-pub fn show(rt: &LibcRuntime, tally: &mut Tally) -> Result<(), Stop> {
+pub(crate) fn show(rt: &LibcRuntime, tally: &mut Tally) -> Result<(), Stop> {
     println!(rt, "Worked weighings")?;
     one_against_one(rt, tally)?;
     dyson(rt, tally)

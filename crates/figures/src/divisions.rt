@@ -1,41 +1,16 @@
 // How a first guess divides the codes: for each answer, how many codes give it.
-ghost use mathlib.Core.Path.{_≡_};
-ghost use Prim.Native.Nat.{ℕ, _<_};
-ghost use lib.ListN.{getD};
-ghost use Rattle.figures.specs.Counts.{that-answer};
 use crate::coins::weighing;
 use crate::notation::PegGame;
 use crate::report::Stop;
 use crate::report::StopFromFault;
 use crate::report::StopFromIo;
 use crate::report::Tally;
+use counts::divide;
 use rule::AnswerRule;
 use rule::Coins;
 use rule::CoinsRule;
 use rule::Pegs;
 use rule::PegsRule;
-
-// How many codes have an answer to a guess.
-pub fn count_that_answer<R: AnswerRule>(rule: &R, guess: u32, answer: u8) -> u32
-    ensures { λ r. ⌜ r ≡ that-answer (meaning (now (rule .entry))) guess answer ⌝ }
-{
-    let mut count = 0u32;
-    for number in 0..rule.code_bound() {
-        count += u32::from(rule.answer(number, guess) == answer);
-    }
-    count
-}
-
-// How a guess divides the codes: at each answer's place, how many codes have it. No game has more answers than places here.
-pub fn divide<R: AnswerRule>(rule: &R, guess: u32) -> [u32; 64]
-    ensures { λ r. ⌜ ((a : ℕ) → a < 64 → getD r a 0 ≡ that-answer (meaning (now (rule .entry))) guess a) ⌝ }
-{
-    let mut division = [0u32; 64];
-    for answer in 0..64usize {
-        division[answer] = count_that_answer(rule, guess, answer as u8);
-    }
-    division
-}
 
 // The rows go by rising answers; print has them from the last answer to the first.
 fn score<R: AnswerRule>(
@@ -60,7 +35,7 @@ fn row(
     score(rt, tally, &game.rule, guess, game.number(guess), printed)
 }
 
-pub fn show(rt: &LibcRuntime, tally: &mut Tally) -> Result<(), Stop> {
+pub(crate) fn show(rt: &LibcRuntime, tally: &mut Tally) -> Result<(), Stop> {
     println!(rt, "How a first guess divides the codes, by rising answers")?;
     mastermind(rt, tally)?;
     bulls_and_cows(rt, tally)?;

@@ -1,9 +1,9 @@
 // The games: how many codes, admitted guesses and answers each has, counted by asking its rule.
-ghost use mathlib.Core.Path.{_≡_};
-ghost use Rattle.figures.specs.Counts.{codes-of, guesses-of};
 use crate::report::Stop;
 use crate::report::StopFromFault;
 use crate::report::StopFromIo;
+use counts::count_codes;
+use counts::count_guesses;
 use rule::AnswerRule;
 use rule::Blacks;
 use rule::BlacksRule;
@@ -17,26 +17,6 @@ use rule::TableRule;
 // A small game by its table: in each of three rows, what the four codes answer.
 pub const SMALL_TABLE: [u8; 12] = [0, 0, 1, 1, 0, 1, 0, 1, 2, 0, 0, 2];
 
-pub fn count_codes<R: AnswerRule>(rule: &R) -> u32
-    ensures { λ r. ⌜ r ≡ codes-of (meaning (now (rule .entry))) ⌝ }
-{
-    let mut count = 0u32;
-    for number in 0..rule.code_bound() {
-        count += u32::from(rule.is_code(number));
-    }
-    count
-}
-
-pub fn count_guesses<R: AnswerRule>(rule: &R) -> u32
-    ensures { λ r. ⌜ r ≡ guesses-of (meaning (now (rule .entry))) ⌝ }
-{
-    let mut count = 0u32;
-    for number in 0..rule.guess_bound() {
-        count += u32::from(rule.admits(number));
-    }
-    count
-}
-
 fn show_game<R: AnswerRule>(rt: &LibcRuntime, name: &str, rule: &R) -> Result<(), Stop> {
     let codes = count_codes(rule);
     let guesses = count_guesses(rule);
@@ -48,7 +28,7 @@ fn show_game<R: AnswerRule>(rt: &LibcRuntime, name: &str, rule: &R) -> Result<()
     Ok(())
 }
 
-pub fn show(rt: &LibcRuntime) -> Result<(), Stop> {
+pub(crate) fn show(rt: &LibcRuntime) -> Result<(), Stop> {
     println!(rt, "Games")?;
     show_game(rt, "Mastermind, 4 pegs, 6 colours", &Pegs::new(4, 6, true)?)?;
     show_game(

@@ -7,7 +7,6 @@ mod notation;
 mod pairs;
 mod pegs;
 mod places;
-mod refusals;
 mod report;
 
 use house::house_figures;
@@ -22,7 +21,6 @@ fn main(rt: LibcRuntime) -> Result<(), Stop> {
     pegs::show(&rt, &mut tally)?;
     coins::show(&rt, &mut tally)?;
     divisions::show(&rt, &mut tally)?;
-    refusals::show(&rt, &mut tally)?;
     places::show(&rt, &mut tally)?;
     let rows = house_figures();
     println!(rt, "House figures proved: {rows}")?;

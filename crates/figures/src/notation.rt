@@ -16,7 +16,7 @@ pub struct PegGame {
 
 impl PegGame {
     // The number that a printed row stands for. Text that is no row of the game gives a number that is not one either.
-    pub fn number(&self, row: &str) -> u32 {
+    pub(crate) fn number(&self, row: &str) -> u32 {
         let mut number = 0u32;
         for sign in row.bytes() {
             let colour = u32::from(sign.wrapping_sub(self.first));
@@ -25,12 +25,12 @@ impl PegGame {
         number
     }
 
-    pub fn answer(&self, code: &str, guess: &str) -> u8 {
+    pub(crate) fn answer(&self, code: &str, guess: &str) -> u8 {
         self.rule.answer(self.number(code), self.number(guess))
     }
 
     // What an answer of this game stands for.
-    pub fn pair(&self, answer: u8) -> Option<Pair> {
+    pub(crate) fn pair(&self, answer: u8) -> Option<Pair> {
         Pair::of_answer(self.pegs, answer)
     }
 }

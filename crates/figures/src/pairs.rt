@@ -29,7 +29,7 @@ fn possible(pegs: u8, black: u8, white: u8) -> bool
 
 impl Pair {
     // The answer that stands for this pair, if it can come: how many pairs that can come are before it, by rising black and then white.
-    pub fn answer(self, pegs: u8) -> Option<u8> {
+    pub(crate) fn answer(self, pegs: u8) -> Option<u8> {
         let mut before = 0u8;
         for black in 0..7u8 {
             for white in 0..7u8 {
@@ -43,7 +43,7 @@ impl Pair {
     }
 
     // The pair that an answer stands for; none where it is no answer.
-    pub fn of_answer(pegs: u8, answer: u8) -> Option<Pair> {
+    pub(crate) fn of_answer(pegs: u8, answer: u8) -> Option<Pair> {
         for black in 0..7u8 {
             for white in 0..7u8 {
                 let pair = Pair { black, white };

@@ -33,7 +33,7 @@ fn score(
     Ok(())
 }
 
-pub fn show(rt: &LibcRuntime, tally: &mut Tally) -> Result<(), Stop> {
+pub(crate) fn show(rt: &LibcRuntime, tally: &mut Tally) -> Result<(), Stop> {
     println!(rt, "Worked pairs of pegs")?;
     mastermind(rt, tally)?;
     bulls_and_cows(rt, tally)?;

@@ -19,7 +19,7 @@ fn first_places(naming: bool, answers: u8) -> [u32; 5]
     row
 }
 
-pub fn show(rt: &LibcRuntime, tally: &mut Tally) -> Result<(), Stop> {
+pub(crate) fn show(rt: &LibcRuntime, tally: &mut Tally) -> Result<(), Stop> {
     println!(rt, "Places for codes after 0 to 4 guesses")?;
     tally.compare_rows(
         rt,

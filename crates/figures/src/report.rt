@@ -48,7 +48,7 @@ pub struct Tally {
 }
 
 impl Tally {
-    pub fn new() -> Tally
+    pub(crate) fn new() -> Tally
         ensures { λ r. ⌜ r .agree ≡ 0 ⌝ ∗ ⌜ r .differ ≡ 0 ⌝ }
     {
         Tally {
@@ -58,7 +58,7 @@ impl Tally {
     }
 
     // Counts whether a figure came out as it should.
-    pub fn count(&mut self, same: bool) -> Verdict
+    pub(crate) fn count(&mut self, same: bool) -> Verdict
         ensures which { λ r. ⌜ r ≡ verdict same ⌝ }
         ensures count { λ r. ⌜ now (self .exit) ≡ counted (now (self .entry)) r ⌝ }
     {
@@ -72,7 +72,7 @@ impl Tally {
     }
 
     // Compares a printed figure with the computed one, and counts the outcome.
-    pub fn compare(&mut self, printed: u32, computed: u32) -> Verdict
+    pub(crate) fn compare(&mut self, printed: u32, computed: u32) -> Verdict
         ensures which { λ r. ⌜ r ≡ verdict (eqb printed computed) ⌝ }
         ensures count { λ r. ⌜ now (self .exit) ≡ counted (now (self .entry)) r ⌝ }
     {
@@ -80,7 +80,7 @@ impl Tally {
     }
 
     // Whether all that was compared since an earlier count agreed.
-    pub fn since(&self, before: Tally) -> Verdict
+    pub(crate) fn since(&self, before: Tally) -> Verdict
         ensures { λ r. ⌜ r ≡ verdict (eqb (before .differ) (now (self .entry) .differ)) ⌝ }
     {
         if before.differ == self.differ {
@@ -91,7 +91,7 @@ impl Tally {
     }
 
     // Prints a printed row above the computed one and compares them place by place, as far as print goes.
-    pub fn compare_rows(
+    pub(crate) fn compare_rows(
         &mut self,
         rt: &LibcRuntime,
         name: &str,
@@ -114,7 +114,7 @@ impl Tally {
         Ok(())
     }
 
-    pub fn show(&self, rt: &LibcRuntime) -> Result<(), Stop> {
+    pub(crate) fn show(&self, rt: &LibcRuntime) -> Result<(), Stop> {
         let agree = self.agree;
         let differ = self.differ;
         println!(rt, "Figures compared: {agree} agree, {differ} differ")?;
