@@ -30,10 +30,17 @@ pub struct Fault {
 // The checks that can refuse, each with the number it refuses with.
 #[derive(Clone, Copy, PartialEq, Eq, Debug)]
 pub enum Check {
+    FileTooShort = 1,
+    KindOrEdition = 2,
+    Lengths = 3,
+    TitleByte = 4,
+    Figure = 6,
+    RecordForm = 7,
     GameParameters = 17,
     TableShape = 18,
     BlurTable = 19,
     HintPair = 20,
+    OutputTooShort = 21,
     NinthHint = 32,
 }
 
@@ -48,6 +55,13 @@ impl Check {
         ensures { λ r. ⌜ r ≡ stage-of self ⌝ }
     {
         match self {
+            Check::FileTooShort
+            | Check::KindOrEdition
+            | Check::Lengths
+            | Check::TitleByte
+            | Check::Figure
+            | Check::OutputTooShort => Stage::File,
+            Check::RecordForm => Stage::Record,
             Check::GameParameters
             | Check::TableShape
             | Check::BlurTable

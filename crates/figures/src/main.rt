@@ -2,6 +2,7 @@
 // whether the two agree.
 mod coins;
 mod divisions;
+mod documents;
 mod games;
 mod notation;
 mod pairs;
@@ -22,6 +23,7 @@ fn main(rt: LibcRuntime) -> Result<(), Stop> {
     coins::show(&rt, &mut tally)?;
     divisions::show(&rt, &mut tally)?;
     places::show(&rt, &mut tally)?;
+    documents::show(&rt, &mut tally)?;
     let rows = house_figures();
     println!(rt, "House figures proved: {rows}")?;
     tally.show(&rt)

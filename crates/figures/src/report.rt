@@ -2,6 +2,7 @@
 ghost use mathlib.Core.Path.{_≡_};
 ghost use lib.Dec.{eqb};
 ghost use Rattle.figures.specs.Report.{verdict, counted};
+use document::FileFault;
 use fault::Fault;
 use std::fmt;
 use std::io;
@@ -38,6 +39,12 @@ pub impl From<Fault> for Stop as StopFromFault {
 pub impl From<io::Error> for Stop as StopFromIo {
     fn from(error: io::Error) -> Stop {
         Stop::Unwritten(error)
+    }
+}
+
+pub impl From<FileFault> for Stop as StopFromFile {
+    fn from(refused: FileFault) -> Stop {
+        Stop::Refused(refused.fault)
     }
 }
 
