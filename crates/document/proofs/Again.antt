@@ -1,10 +1,10 @@
 -- The bytes of a paper in order, read again. Assumes nothing.
 use mathlib.Core.Path.{_≡_, refl, sym, ap, subst, _∙_}
 use mathlib.Core.Logic.{_⊎_, inl, inr, ⊎-elim}
-use mathlib.Core.List.{List, [], _∷_, _++_}
+use mathlib.Core.List.{List, _++_}
 use Prim.Native.Nat.{ℕ, _+_, _-_, _*_, _/_, _%_, _≤_, _<_}
 use native.Mathlib.Omega.{arith}
-use lib.ListN.{length, getD, take, drop}
+use lib.ListN.{length, getD, take}
 use Rattle.std.proofs.shelf.Lists.{append-assoc, take-at, drop-at, length-append, getD-append-add, getD-append-left, getD-past}
 use Rattle.std.proofs.shelf.Tests.{cases-lt}
 use Rattle.document.specs.declared.file.Trailer.{Trailer}
@@ -13,7 +13,7 @@ use Rattle.document.specs.declared.sheet.Takes.{Takes}
 use Rattle.document.specs.declared.sheet.Takes.the-variants.{Either, OnlyTrees, OnlyRefutations}
 use Rattle.document.specs.declared.record.Kind.{Kind}
 use Rattle.document.specs.declared.record.Kind.the-variants.{Tree, Refutation}
-use Rattle.document.specs.Bytes.{two, four, two-at, four-at, record-at, trailer, Paper, encode, size}
+use Rattle.document.specs.Bytes.{four-at, record-at, trailer, Paper, encode, size}
 use Rattle.document.specs.Forms.{Faulty}
 use Rattle.document.specs.Order.{Passed, Refused}
 use Rattle.document.specs.Checks.{kind-of, Taken, Sized, Printable, Ranged, paper-tests}

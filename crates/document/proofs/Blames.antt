@@ -1,7 +1,7 @@
 -- The lowest of the records that are blamed. Assumes nothing.
-use mathlib.Core.Path.{_≡_, refl, sym, ap, subst, _∙_}
+use mathlib.Core.Path.{_≡_, refl, sym, subst}
 use mathlib.Core.Logic.{_⊎_, inl, inr, ⊎-elim}
-use mathlib.Core.List.{List, [], _∷_}
+use mathlib.Core.List.{List}
 use Prim.Native.Nat.{ℕ, _+_, _-_, _≤_, _<_, min}
 use native.Mathlib.Omega.{arith}
 use Rattle.std.specs.declared.option.Option.{Option}
@@ -9,9 +9,8 @@ use Rattle.std.specs.declared.option.Option.the-variants.{Some, None}
 use Rattle.std.proofs.shelf.Tests.{cases-lt}
 use Rattle.document.specs.declared.record.Kind.{Kind}
 use Rattle.document.specs.declared.record.Record.{Record}
-use Rattle.document.specs.declared.row.Siblings.{Siblings}
 use Rattle.document.specs.declared.row.Siblings.the-variants.{Broken, Rising, Late}
-use Rattle.document.specs.Forms.{key, Row, Children, Begins, Beside, Behind, Plain, Formed, Blames, Faulty}
+use Rattle.document.specs.Forms.{Children, Behind, Plain, Blames, Faulty}
 use Rattle.document.specs.Walks.{Tells, Least, lower, Blamed}
 use Rattle.document.proofs.Rows.{beside-below, row-same}
 

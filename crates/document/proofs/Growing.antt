@@ -2,7 +2,7 @@
 use mathlib.Core.Path.{_≡_, refl, sym, ap, subst, _∙_}
 use mathlib.Core.Logic.{_⊎_, inl, inr, ⊎-elim}
 use mathlib.Core.List.{List, [], _∷_, _++_}
-use Prim.Native.Nat.{ℕ, zero, suc, _+_, _-_, _*_, _/_, _≤_, _<_}
+use Prim.Native.Nat.{ℕ, zero, suc, _+_, _-_, _*_, _≤_, _<_}
 use native.Mathlib.Omega.{arith}
 use lib.ListN.{length, getD}
 use Rattle.std.specs.Joined.{joined}
@@ -12,7 +12,7 @@ use Rattle.document.specs.declared.record.Kind.{Kind}
 use Rattle.document.specs.declared.record.Kind.the-variants.{Tree, Refutation}
 use Rattle.document.specs.declared.record.Record.{Record}
 use Rattle.document.specs.Bytes.{record-at, record-bytes}
-use Rattle.document.specs.Forms.{key, Shaped, Unasked, Plain, Formed, Row, Children, Begins, Beside, Behind, Blames, Faulty}
+use Rattle.document.specs.Forms.{Shaped, Unasked, Plain, Formed, Row, Children, Faulty}
 use Rattle.document.specs.Trees.{Forest, none, grown, weight, records-of, Fitting, Lower, Grows, Rooted, Planted}
 use Rattle.document.proofs.Slices.{slice, slice-append, slice-bytes}
 use Rattle.document.proofs.Standing.{Rises, Headed}

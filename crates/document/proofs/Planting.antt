@@ -1,16 +1,15 @@
 -- Bytes that are the records of a tree in form have no faulty record. Assumes nothing.
 use mathlib.Core.Path.{_≡_, refl, sym, ap, subst, _∙_}
-use mathlib.Core.Logic.{_⊎_, inl, inr, ⊎-elim}
-use mathlib.Core.List.{List, [], _∷_, _++_}
-use Prim.Native.Nat.{ℕ, _+_, _-_, _*_, _/_, _≤_, _<_}
+use mathlib.Core.Logic.{inl, inr}
+use mathlib.Core.List.{List, [], _∷_}
+use Prim.Native.Nat.{ℕ, _+_, _-_, _*_, _≤_, _<_}
 use native.Mathlib.Omega.{arith}
 use lib.ListN.{length, getD}
-use Rattle.std.specs.Joined.{joined}
 use Rattle.document.specs.declared.record.Kind.{Kind}
 use Rattle.document.specs.declared.record.Kind.the-variants.{Tree, Refutation}
 use Rattle.document.specs.declared.record.Record.{Record}
-use Rattle.document.specs.Bytes.{record-at, record-bytes}
-use Rattle.document.specs.Forms.{Unasked, Plain, Formed, Children, Behind, Blames, Faulty}
+use Rattle.document.specs.Bytes.{record-at}
+use Rattle.document.specs.Forms.{Unasked, Formed, Behind, Faulty}
 use Rattle.document.specs.Trees.{Forest, none, grown, weight, records-of, Grows, Rooted, Planted}
 use Rattle.document.proofs.Rows.{row-same}
 use Rattle.document.proofs.Slices.{slice, slice-length, slice-append, slice-there, joined-length, AllFit, fit-append}

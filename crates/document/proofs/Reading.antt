@@ -1,8 +1,8 @@
 -- From the checks of what a document says to those of its file. Assumes nothing.
-use mathlib.Core.Path.{_≡_, refl, sym, ap, subst, _∙_}
-use mathlib.Core.Logic.{_⊎_, inl, inr, ⊎-elim}
-use mathlib.Core.List.{List, [], _∷_, _++_}
-use Prim.Native.Nat.{ℕ, _+_, _-_, _*_, _/_, _≤_, _<_}
+use mathlib.Core.Path.{_≡_, sym, ap, subst, _∙_}
+use mathlib.Core.Logic.{inl, inr}
+use mathlib.Core.List.{List}
+use Prim.Native.Nat.{ℕ, _+_, _-_, _/_, _<_}
 use native.Mathlib.Omega.{arith}
 use lib.ListN.{length, getD}
 use Rattle.fault.specs.declared.Fault.{Fault}
@@ -12,7 +12,7 @@ use Rattle.document.specs.Bytes.{Paper, encode, four-at, record-at}
 use Rattle.document.specs.Forms.{Faulty}
 use Rattle.document.specs.Order.{Passed, Refused}
 use Rattle.document.specs.Checks.{kind-of, Taken, Sized, paper-tests}
-use Rattle.document.specs.Files.{trailer-in, Agreed, paper-in, opening-tests, closing-tests, file-tests, Reads, Rejects}
+use Rattle.document.specs.Files.{trailer-in, paper-in, opening-tests, closing-tests, Reads, Rejects}
 use Rattle.document.proofs.Again.{taken-either, stands-so, rejected}
 use Rattle.document.proofs.Orders.{passed-append, refused-front, refused-back}
 use Rattle.document.proofs.Whole.{title-length, records-length, records-count, encode-in}

@@ -1,5 +1,5 @@
 -- One step back over a sibling. Assumes nothing.
-use mathlib.Core.Path.{_≡_, refl, sym, ap, subst, _∙_}
+use mathlib.Core.Path.{_≡_, refl, sym, ap, subst}
 use mathlib.Core.Logic.{_⊎_, inl, inr, ⊎-elim}
 use mathlib.Core.List.{List, [], _∷_}
 use Prim.Native.Nat.{ℕ, _+_, _-_, _≤_, _<_}
@@ -8,7 +8,7 @@ use Rattle.document.specs.declared.record.Kind.{Kind}
 use Rattle.document.specs.declared.record.Record.{Record}
 use Rattle.document.specs.declared.row.Siblings.{Siblings}
 use Rattle.document.specs.declared.row.Siblings.the-variants.{Broken, Rising, Late}
-use Rattle.document.specs.Forms.{key, Row, Begins, Beside, Behind}
+use Rattle.document.specs.Forms.{key, Row, Begins, Beside}
 use Rattle.document.specs.Walks.{Tells}
 
 -- what a row tells, where the siblings behind it, looked at before, told `found`

@@ -1,14 +1,13 @@
 -- The records at consecutive places, as a list and as bytes. Assumes nothing.
 use mathlib.Core.Path.{_≡_, refl, sym, ap, subst, _∙_}
 use mathlib.Core.List.{List, [], _∷_, _++_}
-use Prim.Native.Nat.{ℕ, zero, suc, _+_, _-_, _*_, _/_, _%_, _≤_, _<_}
+use Prim.Native.Nat.{ℕ, zero, suc, _+_, _-_, _*_, _≤_, _<_}
 use native.Mathlib.Omega.{arith}
-use native.Mathlib.Numerals.{add-one}
-use lib.ListN.{length, getD, take, drop}
+use lib.ListN.{length, getD, drop}
 use Rattle.std.specs.Joined.{joined}
-use Rattle.std.proofs.shelf.Lists.{append-assoc, append-nil, drop-all, drop-at, take-at, length-append, getD-append-left, getD-append-add}
+use Rattle.std.proofs.shelf.Lists.{append-assoc, append-nil, drop-all, length-append, getD-append-add}
 use Rattle.document.specs.declared.record.Record.{Record}
-use Rattle.document.specs.Bytes.{two, four, two-at, four-at, record-at, record-bytes}
+use Rattle.document.specs.Bytes.{record-at, record-bytes}
 use Rattle.document.proofs.Coding.{front, two-front, four-front, two-field, four-field}
 
 -- the records at m places from low on

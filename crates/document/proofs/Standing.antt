@@ -2,7 +2,7 @@
 use mathlib.Core.Path.{_≡_, refl, sym, ap, subst, _∙_}
 use mathlib.Core.Logic.{_⊎_, inl, inr, ⊎-elim}
 use mathlib.Core.List.{List, [], _∷_, _++_}
-use Prim.Native.Nat.{ℕ, _+_, _-_, _*_, _≤_, _<_}
+use Prim.Native.Nat.{ℕ, _+_, _-_, _≤_, _<_}
 use native.Mathlib.Omega.{arith}
 use lib.ListN.{length, take, drop, getD}
 use Rattle.std.proofs.shelf.Lists.{append-assoc, take-at, drop-at, length-append}
@@ -10,7 +10,7 @@ use Rattle.std.proofs.shelf.Tests.{cases-lt}
 use Rattle.document.specs.declared.record.Kind.{Kind}
 use Rattle.document.specs.declared.record.Kind.the-variants.{Tree, Refutation}
 use Rattle.document.specs.declared.record.Record.{Record}
-use Rattle.document.specs.Forms.{key, Shaped, Row, Children, Begins, Beside, Behind}
+use Rattle.document.specs.Forms.{key, Shaped, Row, Children, Begins, Behind}
 use Rattle.document.specs.Trees.{Forest, none, grown, weight, records-of, Fitting, Lower, Grows}
 use Rattle.document.proofs.Slices.{slice, slice-length, slice-append}
 

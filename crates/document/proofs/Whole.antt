@@ -1,13 +1,13 @@
 -- A file whose lengths agree is the bytes of what it says. Assumes nothing.
-use mathlib.Core.Path.{_≡_, refl, sym, ap, subst, _∙_}
+use mathlib.Core.Path.{_≡_, refl, sym, ap, _∙_}
 use mathlib.Core.List.{List, [], _∷_, _++_}
-use Prim.Native.Nat.{ℕ, _+_, _-_, _*_, _/_, _≤_, _<_, min}
+use Prim.Native.Nat.{ℕ, _+_, _-_, _*_, _/_, _≤_, _<_}
 use native.Mathlib.Omega.{arith}
 use lib.ListN.{length, getD, take, drop}
 use Rattle.std.proofs.shelf.Lists.{drop-all, append-nil, take-append-drop, drop-drop, length-take, length-drop}
 use Rattle.document.specs.declared.file.Trailer.{Trailer}
-use Rattle.document.specs.Bytes.{two, four, two-at, four-at, trailer, Paper, encode}
-use Rattle.document.specs.Files.{trailer-in, Agreed, paper-by, paper-in}
+use Rattle.document.specs.Bytes.{two, four, four-at, trailer, encode}
+use Rattle.document.specs.Files.{trailer-in, Agreed, paper-in}
 use Rattle.document.proofs.Coding.{front, two-front, four-front}
 
 -- the bytes of the fields of a trailer, as they stand

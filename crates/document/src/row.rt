@@ -1,5 +1,5 @@
 // The siblings beneath a record, found by stepping back over whole spans.
-ghost use Prim.Native.Nat.{_+_, _*_, _≤_};
+ghost use Prim.Native.Nat.{_*_, _≤_};
 ghost use lib.ListN.{length};
 ghost use Rattle.document.specs.Bytes.{record-at};
 ghost use Rattle.document.specs.Walks.{Tells};

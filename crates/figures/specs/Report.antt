@@ -1,5 +1,5 @@
 -- How a printed figure and a computed one compare, and what the report counts. Assumes nothing.
-use mathlib.Core.Bool.{Bool, true, false, cond}
+use mathlib.Core.Bool.{Bool, cond}
 use Prim.Native.Nat.{ℕ, _+_, _-_, _^_, min}
 use Rattle.figures.specs.declared.report.Tally.{Tally}
 use Rattle.figures.specs.declared.report.Verdict.{Verdict}

@@ -1,5 +1,4 @@
 // Rows of pegs as print shows them: a sign for each peg, the signs of the colours in a row from the first on.
-ghost use mathlib.Core.Path.{_≡_};
 use crate::pairs::Pair;
 use rule::AnswerRule;
 use rule::Pegs;

@@ -1,6 +1,6 @@
 -- One computed test of all rows, and that it speaks of each. Assumes nothing.
 use mathlib.Core.Path.{_≡_, ap, refl, _∙_}
-use mathlib.Core.Bool.{Bool, true, false, _&&_}
+use mathlib.Core.Bool.{Bool, true, _&&_}
 use mathlib.Core.List.{List, [], _∷_}
 use mathlib.Core.Logic.{⊎-elim}
 use Rattle.std.proofs.shelf.Tests.{and-parts}

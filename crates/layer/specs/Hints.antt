@@ -1,9 +1,8 @@
 -- A game narrowed by hints: the codes that would have given each hint's answer. Assumes nothing.
-use mathlib.Core.Bool.{Bool, true, false, cond, _&&_, _||_}
+use mathlib.Core.Bool.{Bool, true, cond, _&&_}
 use mathlib.Core.List.{List, [], _∷_}
 use Prim.Native.Nat.{ℕ, suc}
 use lib.Dec.{eqb, ltb}
-use lib.ListN.{length}
 use Rattle.fault.specs.Faults.{refusal}
 use Rattle.fault.specs.declared.Check.the-variants.{HintPair, NinthHint}
 use Rattle.fault.specs.declared.Fault.{Fault}

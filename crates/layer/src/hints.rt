@@ -2,7 +2,7 @@
 ghost use mathlib.Core.Bool.{_&&_};
 ghost use mathlib.Core.List.{[]};
 ghost use mathlib.Core.Path.{_≡_};
-ghost use Rattle.layer.specs.Hints.{agrees, hinted, hint-fits, hint-result, hints-after};
+ghost use Rattle.layer.specs.Hints.{agrees, hinted, hint-result, hints-after};
 ghost use Rattle.layer.specs.Notes.{listed};
 ghost use Rattle.layer.specs.laws.HintLaws.{hinted-lawful};
 use crate::hint::Hint;

@@ -3,7 +3,7 @@ use mathlib.Core.Path.{_≡_, refl, sym, ap, subst, _∙_}
 use mathlib.Core.Bool.{Bool, true, false}
 use mathlib.Core.List.{List, [], _∷_}
 use mathlib.Core.Logic.{⊎-elim}
-use Prim.Native.Nat.{ℕ, zero, suc, _+_, _*_, _/_, _%_, _^_, _≤_, _<_, min}
+use Prim.Native.Nat.{ℕ, _+_, _/_, _%_, _^_, _≤_, _<_, min}
 use native.Mathlib.Nat.{pow-zero, pow-suc, div-div-eq-div-mul, div-one}
 use native.Mathlib.Numerals.{add-one}
 use native.Mathlib.Omega.{arith}
@@ -11,7 +11,7 @@ use lib.Dec.{eqb}
 use mir.Val.{boolByte}
 use lib.ListN.{length, getD, set, replicate, length-set}
 use Rattle.std.proofs.shelf.Bits.{mod-below}
-use Rattle.std.proofs.shelf.Lists.{getD-set-same, getD-set-other, getD-replicate, length-replicate}
+use Rattle.std.proofs.shelf.Lists.{getD-set-same, getD-set-other, getD-replicate}
 use Rattle.std.proofs.shelf.Tests.{cases-eq}
 use Rattle.rule.specs.Digits.{digits, tally, occurs, total}
 use Rattle.rule.specs.Pegs.{equal-places, shared}

@@ -1,11 +1,9 @@
 // The game of the false coin: weighings on a balance.
 ghost use mathlib.Core.Bool.{true, false};
 ghost use mathlib.Core.Path.{_≡_};
-ghost use Prim.Native.Nat.{_-_, _/_, _%_, _^_, _≤_, _<_};
 ghost use Rattle.fault.specs.declared.Check.the-variants.{GameParameters};
 ghost use Rattle.fault.specs.Faults.{refusal};
-ghost use Rattle.rule.specs.Coins.{coins-fit, coins as coin-game, is-weighing};
-ghost use Rattle.rule.specs.Digits.{digits, occurs};
+ghost use Rattle.rule.specs.Coins.{coins-fit, coins as coin-game};
 ghost use Rattle.rule.specs.laws.Kept.{coins-rule};
 ghost use Rattle.rule.specs.Rules.{coins-of};
 ghost use Rattle.std.specs.Results.{Cases};

@@ -5,10 +5,9 @@ use mathlib.Core.List.{List}
 use mathlib.Core.Logic.{⊎-elim}
 use Prim.Native.Nat.{ℕ, _-_, _≤_, _<_}
 use native.Mathlib.Omega.{arith}
-use lib.Dec.{eqb, leb, ltb}
+use lib.Dec.{eqb, leb}
 use lib.ListN.{length, getD}
 use Rattle.std.proofs.shelf.Tests.{and-parts, and-from, and-left, and-right, both-ways, cases-bool, cases-eq, cond-true, cond-false, eq-eqb, eqb-true, eqb-false, ne-eqb, leb-true, or-cases, not-true}
-use Rattle.rule.specs.Digits.{all-below}
 use Rattle.rule.specs.Meaning.{Meaning, Lawful, Playable, win}
 use Rattle.rule.specs.Table.{all-under, nearest, as-answer}
 use Rattle.rule.specs.laws.Below.{all-below-at}

@@ -1,10 +1,9 @@
 -- A game narrowed by hints keeps the law. Assumes nothing.
-use mathlib.Core.Path.{_≡_, refl, sym, subst, _∙_}
-use mathlib.Core.Bool.{Bool, true, false, cond, _&&_}
+use mathlib.Core.Path.{_≡_, sym, subst, _∙_}
 use mathlib.Core.List.{List}
 use Prim.Native.Nat.{ℕ, _<_}
 use Rattle.std.proofs.shelf.Tests.{and-parts, and-from, cond-true, cond-false}
-use Rattle.rule.specs.Meaning.{Meaning, Lawful, Playable, win}
+use Rattle.rule.specs.Meaning.{Meaning, Lawful, Playable}
 use Rattle.layer.specs.declared.hint.Hint.{Hint}
 use Rattle.layer.specs.Hints.{agrees, hinted}
 

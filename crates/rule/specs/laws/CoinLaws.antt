@@ -1,18 +1,18 @@
 -- What the balance shows, and that the coin game keeps the law. Assumes nothing.
 use mathlib.Core.Path.{_≡_, refl, sym, ap, subst, _∙_}
-use mathlib.Core.Bool.{Bool, true, false, cond, _&&_}
+use mathlib.Core.Bool.{Bool, true, false, cond}
 use mathlib.Core.List.{List, [], _∷_}
-use mathlib.Core.Logic.{_⊎_, inl, inr, ⊎-elim}
+use mathlib.Core.Logic.{_⊎_, ⊎-elim}
 use Prim.Native.Nat.{ℕ, zero, suc, _+_, _-_, _*_, _/_, _%_, _^_, _≤_, _<_}
 use native.Mathlib.Nat.{pow-le-pow-right}
 use native.Mathlib.Omega.{arith}
-use lib.Dec.{eqb, ltb, leb, lit<}
+use lib.Dec.{eqb, lit<}
 use lib.ListN.{length, getD}
 use Rattle.std.proofs.shelf.Bits.{mod-below}
 use Rattle.std.proofs.shelf.Tests.{and-parts, and-from, both-ways, ltb-true, eqb-true, eq-eqb, ne-eqb, lt-ltb, le-ltb, cases-eq, cases-order, cond-true, cond-false}
 use Rattle.rule.specs.Coins.{weight, load, balance, is-weighing, weighed, coins}
 use Rattle.rule.specs.Digits.{digits, tally, occurs}
-use Rattle.rule.specs.Meaning.{Meaning, Lawful}
+use Rattle.rule.specs.Meaning.{Lawful}
 use Rattle.rule.specs.laws.Rows.{length-digits, power-positive}
 
 -- under a code the false coin is f and weighs h, and every other coin weighs 2

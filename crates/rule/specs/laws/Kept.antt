@@ -1,9 +1,6 @@
 -- Each rule of this crate keeps the law. Assumes nothing.
-use mathlib.Core.Path.{_≡_, refl, subst}
-use mathlib.Core.Bool.{Bool, true, false, cond}
-use Prim.Native.Nat.{ℕ, _≤_, _<_}
-use native.Mathlib.Omega.{arith}
-use Rattle.std.proofs.shelf.Tests.{both-ways, and-from, ltb-true, cond-true, cond-false}
+use mathlib.Core.Path.{subst}
+use Prim.Native.Nat.{_≤_}
 use Rattle.rule.specs.Meaning.{Lawful}
 use Rattle.rule.specs.Rules.{pegs-of, blacks-of, coins-of, table-of}
 use Rattle.rule.specs.declared.blacks.Blacks.{Blacks}

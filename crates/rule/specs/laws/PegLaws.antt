@@ -1,16 +1,15 @@
 -- The peg games keep the law. Assumes nothing.
-use mathlib.Core.Path.{_≡_, refl, sym, ap, subst, _∙_}
-use mathlib.Core.Bool.{Bool, true, false, not, cond, _&&_}
+use mathlib.Core.Path.{_≡_, sym, ap, subst, _∙_}
+use mathlib.Core.Bool.{Bool, true, cond, _&&_}
 use mathlib.Core.Logic.{⊎-elim}
 use Prim.Native.Nat.{ℕ, _+_, _-_, _*_, _/_, _^_, _≤_, _<_}
 use native.Mathlib.Omega.{arith}
-use lib.Dec.{eqb, leb, ltb}
 use lib.ListN.{length}
 use Rattle.std.proofs.shelf.Bits.{mul-le}
 use Rattle.std.proofs.shelf.Tests.{and-parts, eq-eqb, and-from, and-left, and-right, not-from-false, le-leb, ne-eqb, ltb-true, cases-eq, cond-true, cond-false}
 use Rattle.rule.specs.Digits.{digits, tally}
-use Rattle.rule.specs.Meaning.{Meaning, Lawful}
-use Rattle.rule.specs.Pegs.{is-row, equal-places, shared, white, pairs, position, possible, peg-answer, pegs, blacks}
+use Rattle.rule.specs.Meaning.{Lawful}
+use Rattle.rule.specs.Pegs.{is-row, equal-places, white, pairs, possible, peg-answer, pegs, blacks}
 use Rattle.rule.specs.laws.Pairs.{place, Placed, placed, counted}
 use Rattle.rule.specs.laws.Rows.{digits-below, length-digits, equal-le, equal-le-shared, shared-le, one-off, same-equal, all-equal, same-number, power-positive}
 

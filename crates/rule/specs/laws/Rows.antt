@@ -2,7 +2,7 @@
 use mathlib.Core.Path.{_≡_, refl, sym, ap, subst, _∙_}
 use mathlib.Core.Bool.{Bool, true, false}
 use mathlib.Core.List.{List, [], _∷_}
-use mathlib.Core.Logic.{_⊎_, inl, inr, ⊎-elim}
+use mathlib.Core.Logic.{_⊎_, ⊎-elim}
 use Prim.Native.Nat.{ℕ, zero, suc, _+_, _-_, _*_, _/_, _%_, _^_, _≤_, _<_, min}
 use native.Mathlib.Omega.{arith}
 use native.Mathlib.Nat.{pow-zero, pow-suc, pow-succ', mod-eq-of-lt}
@@ -10,9 +10,9 @@ use lib.Arith.{mod-mul}
 use lib.Dec.{eqb}
 use lib.ListN.{length}
 use Rattle.std.proofs.shelf.Bits.{mod-below, mul-lt}
-use Rattle.std.proofs.shelf.Tests.{eq-eqb, ne-eqb, eqb-true, cases-eq}
+use Rattle.std.proofs.shelf.Tests.{cases-eq}
 use Rattle.rule.specs.Digits.{digits, tally, occurs, total}
-use Rattle.rule.specs.Pegs.{equal-places, shared, white}
+use Rattle.rule.specs.Pegs.{equal-places, shared}
 use Rattle.rule.specs.laws.Totals.{total-add, total-same, total-le, total-zero, total-one, tally-same, tally-other}
 
 -- every digit of the row is below b

@@ -1,6 +1,5 @@
-use mathlib.Core.Path.{sym, ap, subst}
+use mathlib.Core.Path.{sym, subst}
 use Prim.Native.Nat.{_-_, _≤_}
-use native.Mathlib.Omega.{arith}
 use Rattle.std.proofs.shelf.Tests.{both-ways}
 use Rattle.document.specs.declared.record.Record.{Record}
 use Rattle.document.specs.declared.row.Siblings.the-variants.{Rising, Late}

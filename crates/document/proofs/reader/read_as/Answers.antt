@@ -1,7 +1,6 @@
 use Prim.Native.Nat.{ℕ}
 use Rattle.std.proofs.shelf.Results.{cases-weaker, err-from-errBy}
 use Rattle.document.specs.Documents.{document-paper}
-use Rattle.document.specs.Checks.{paper-of}
 use Rattle.document.proofs.Reading.{reads, reading-refused, opening-refused}
 use Rattle.document.proofs.reader.read_as.Needs as need
 

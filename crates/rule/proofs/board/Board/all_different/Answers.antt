@@ -1,12 +1,12 @@
 use mathlib.Core.Path.{_≡_, refl, sym, ap, _∙_}
 use mathlib.Core.Bool.{_&&_}
-use Prim.Native.Nat.{_%_, _≤_, _<_}
+use Prim.Native.Nat.{_%_, _<_}
 use native.Mathlib.Omega.{arith}
 use lib.Dec.{eqb}
 use lib.ListN.{getD}
 use borrow.Author.Needs.{needs}
 use Rattle.std.proofs.shelf.Bits.{mod-below}
-use Rattle.rule.specs.Digits.{digits, different}
+use Rattle.rule.specs.Digits.{different}
 use Rattle.rule.proofs.Counts.{rest-start, rest-more, counted-start, counted-more, counted-le, digits-next}
 use Rattle.rule.proofs.board.Board.all_different.Needs as need
 

@@ -1,5 +1,4 @@
 use mathlib.Core.Path.{_≡_}
-use Prim.Native.Nat.{_≤_, _<_}
 use Rattle.rule.specs.Digits.{digits, different}
 use Rattle.rule.proofs.Counts.{Rest, Counted}
 use Rattle.rule.proofs.board.Board.all_different.Given as given

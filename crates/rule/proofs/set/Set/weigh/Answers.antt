@@ -1,5 +1,4 @@
 use mathlib.Core.Path.{sym, _∙_}
-use native.Mathlib.Omega.{arith}
 use Rattle.rule.specs.laws.CoinLaws.{heavy-code, light-aside, light-weighed}
 use Rattle.rule.proofs.set.Set.weigh.Needs as need
 
