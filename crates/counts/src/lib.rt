@@ -1,4 +1,6 @@
 // What is counted of a game: its codes, its admitted guesses, and how a guess divides the codes.
+#![tactic(auto)]
+
 ghost use Rattle.std.specs.Prelude.{◌≡◌, ℕ, ◌<◌, get_or};
 ghost use Rattle.counts.specs.Counts.{codes_of, guesses_of, that_answer};
 

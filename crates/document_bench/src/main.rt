@@ -1,4 +1,6 @@
 // Times reading and writing of a document of a million records, as often as the first argument says, and reports on the error output.
+#![tactic(auto)]
+
 use anyhow::anyhow;
 use document::{Sheet, read};
 use std::alloc::{AllocError, Global};

@@ -1,4 +1,5 @@
 // Reads, breaks and writes documents, small ones and ones at the limits, and says what came of each.
+#![tactic(auto)]
 
 mod limits;
 mod lines;

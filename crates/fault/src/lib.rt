@@ -1,4 +1,6 @@
 // What a call refuses with: which check failed, where in the work that check belongs, and which part of the input it blames.
+#![tactic(auto)]
+
 ghost use Rattle.std.specs.Prelude.{◌≡◌};
 ghost use Rattle.fault.specs.Faults.{number_of, stage_of, fault_at};
 

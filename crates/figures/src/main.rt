@@ -1,5 +1,7 @@
 // Scores the figures that are printed about the games, and prints a report: what print says, what the rules say, and
 // whether the two agree.
+#![tactic(auto)]
+
 mod coins;
 mod divisions;
 mod documents;

@@ -1,4 +1,6 @@
 // The house figures: answers that the games are known by and how many codes guesses can find, proved from what the games mean.
+#![tactic(auto)]
+
 ghost use Rattle.std.specs.Prelude.{◌≡◌, length};
 ghost use Rattle.house.specs.Figures.{figures, EveryFigure};
 

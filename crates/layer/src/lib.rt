@@ -1,4 +1,6 @@
 // Rules made of other rules: hints that narrow the codes, and a blur that makes answers coarser.
+#![tactic(auto)]
+
 mod blur;
 mod hint;
 mod hints;

@@ -1,4 +1,6 @@
 // Answer rules: the interface through which everything else knows a game, and the four games behind it.
+#![tactic(auto)]
+
 mod blacks;
 mod board;
 mod coins;

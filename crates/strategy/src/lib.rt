@@ -1,4 +1,6 @@
 // How many codes a number of guesses can find, and what that and a refutation say of every strategy there is.
+#![tactic(auto)]
+
 ghost use Rattle.std.specs.Prelude.{◌≡◌, ◌+◌, ◌≤◌, min, T, nat_lt};
 ghost use Rattle.strategy.specs.Examples.{OnePeg, FourCoins};
 ghost use Rattle.strategy.specs.Strategy.{places};

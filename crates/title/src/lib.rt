@@ -1,4 +1,6 @@
 // The title to show: the house's own line, or else the supplier's.
+#![tactic(auto)]
+
 ghost use Rattle.std.specs.Prelude.{◌≡◌, length};
 ghost use Rattle.title.specs.Titles.{Shows};
 

@@ -1,4 +1,6 @@
 // Documents of code-breaking games, written to bytes.
+#![tactic(auto)]
+
 mod round;
 mod writer;
 
