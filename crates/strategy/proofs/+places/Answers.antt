@@ -13,5 +13,5 @@ pub returns : goal.returns
 returns t c =
     let next = cut_next c.args.naming c.args.answers c.args.k c.places.result c.if-k-eq0.false c.places.ensures.value in
     let value : c.min.result ≡ min (places c.args.naming c.args.answers c.args.k) 16384 =
-    rw (c.min.ensures, c.saturating-sub-others.ensures, c.from.ensures, c.from-wins.ensures) next in
+    rw (c.min.ensures, c.saturating_sub-others.ensures, c.from.ensures, c.from-wins.ensures) next in
     record { value = value; most = at_most c.args.naming c.args.answers c.args.k _ value }

@@ -11,7 +11,7 @@ use Rattle.document.proofs.form.lowest_blamed.Goals as goal
 pub returns-in-Late : goal.returns-in-Late
 returns-in-Late c =
     let at = record_at c.args.records.now in
-    let is = c.record-at-item.ensures in
+    let is = c.record_at-item.ensures in
     let fits = subst (λ (e : Record). e.span ≤ c.args.i) is c.if-span-i.false in
     blames_late c.args.kind at c.args.count c.args.i fits c.in-Late.place
     (subst (λ (e : Record). Tells c.args.kind at (c.args.i - e.span) c.args.i (Late c.in-Late.place)) is c.in-Late.ensures)
@@ -19,17 +19,17 @@ returns-in-Late c =
 pub returns-in-Rising : goal.returns-in-Rising
 returns-in-Rising c =
     let at = record_at c.args.records.now in
-    let is = c.record-at-item.ensures in
+    let is = c.record_at-item.ensures in
     let fits = subst (λ (e : Record). e.span ≤ c.args.i) is c.if-span-i.false in
     blames_none c.args.kind at c.args.count c.args.i fits
     (subst (λ (e : Record). Tells c.args.kind at (c.args.i - e.span) c.args.i Rising) is c.in-Rising.ensures)
-    (subst (λ (e : Record). Plain c.args.kind e c.args.count c.args.i) is (c.is-plain.ensures.0 c.if-is-plain.true))
+    (subst (λ (e : Record). Plain c.args.kind e c.args.count c.args.i) is (c.is_plain.ensures.0 c.if-is_plain.true))
 
 pub returns-in-Rising-2 : goal.returns-in-Rising-2
 returns-in-Rising-2 c =
     let at = record_at c.args.records.now in
-    let is = c.record-at-item.ensures in
+    let is = c.record_at-item.ensures in
     let fits = subst (λ (e : Record). e.span ≤ c.args.i) is c.if-span-i.false in
     blames_itself c.args.kind at c.args.count c.args.i fits
     (subst (λ (e : Record). Tells c.args.kind at (c.args.i - e.span) c.args.i Rising) is c.in-Rising.ensures)
-    (λ plain. both_ways c.is-plain.result c.if-is-plain.false (c.is-plain.ensures.1 (subst (λ (e : Record). Plain c.args.kind e c.args.count c.args.i) (sym is) plain)))
+    (λ plain. both_ways c.is_plain.result c.if-is_plain.false (c.is_plain.ensures.1 (subst (λ (e : Record). Plain c.args.kind e c.args.count c.args.i) (sym is) plain)))

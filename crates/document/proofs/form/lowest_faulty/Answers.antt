@@ -6,8 +6,8 @@ use Rattle.document.proofs.form.lowest_faulty.Goals as goal
 
 pub loop-i-preserved : goal.loop-i-preserved
 loop-i-preserved c =
-    subst (Least (Blamed c.args.kind (record_at c.args.records.now) c.args.count (c.loop-i.i + 1))) (sym c.lower-of-lowest.ensures)
-    (blamed_more c.args.kind (record_at c.args.records.now) c.args.count c.loop-i.i _ _ c.loop-i.invariant c.lowest-blamed.ensures)
+    subst (Least (Blamed c.args.kind (record_at c.args.records.now) c.args.count (c.loop-i.i + 1))) (sym c.lower_of-lowest.ensures)
+    (blamed_more c.args.kind (record_at c.args.records.now) c.args.count c.loop-i.i _ _ c.loop-i.invariant c.lowest_blamed.ensures)
 
 pub returns : goal.returns
 returns c =

@@ -3,5 +3,5 @@ use Rattle.document.specs.Bytes.{record_at}
 use Rattle.document.proofs.Blames.{faulty_below}
 use Rattle.document.proofs.sheet.check_records.Goals as goal
 
-pub overflow-cast-place : goal.overflow-cast-place
-overflow-cast-place c = omega (arith, faulty_below c.args.kind (record_at c.args.records.now) c.args.count c.in-Some.place c.in-Some.ensures.0)
+pub overflow_cast-place : goal.overflow_cast-place
+overflow_cast-place c = omega (arith, faulty_below c.args.kind (record_at c.args.records.now) c.args.count c.in-Some.place c.in-Some.ensures.0)

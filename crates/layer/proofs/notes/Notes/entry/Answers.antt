@@ -3,8 +3,8 @@ use Rattle.std.proofs.lemmas.List.{length-take}
 use Rattle.layer.proofs.Entries.{read_entry}
 use Rattle.layer.proofs.notes.Notes.entry.Goals as goal
 
-pub offset-bounds-places-at : goal.offset-bounds-places-at
-offset-bounds-places-at c =
+pub offset_bounds-places-at : goal.offset_bounds-places-at
+offset_bounds-places-at c =
     let long = length-take c.args.self.now.used c.args.self.now.entries in
     let same = ap length c.places.ensures.value in
     let low : c.args.at < 8 = omega (arith, long, same, c.places.ensures.len, c.requires) in

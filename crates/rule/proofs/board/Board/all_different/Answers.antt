@@ -7,8 +7,8 @@ use Rattle.rule.proofs.board.Board.all_different.Goals as goal
 pub loop-done-init : goal.loop-done-init
 loop-done-init c = (rest_start _ _, counted_start _ _, refl)
 
-pub overflow-add-counts : goal.overflow-add-counts
-overflow-add-counts c =
+pub overflow_add-counts : goal.overflow_add-counts
+overflow_add-counts c =
     let d : c.loop-done.rest % c.from-base.result < c.from-base.result = mod_below _ _ (omega arith) in
     let le = counted_le _ _ _ _ (c.loop-done.rest % c.from-base.result) (omega arith) c.loop-done.invariant.1 in
     search rules
@@ -17,7 +17,7 @@ pub loop-done-preserved : goal.loop-done-preserved
 loop-done-preserved c =
     let base = c.from-base.result in
     let n = c.args.number in
-    let j = c.loop-done.-done in
+    let j = c.loop-done._done in
     let d : c.loop-done.rest % base < base = mod_below _ _ (omega arith) in
     let count : get_or c.loop-done.counts (c.loop-done.rest % base) 0 ≡ _ = c.loop-done.invariant.1.each (c.loop-done.rest % base) (omega arith) in (
       rest_more _ n j _ c.loop-done.invariant.0,

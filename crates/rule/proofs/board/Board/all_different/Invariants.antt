@@ -5,6 +5,6 @@ use Rattle.rule.proofs.board.Board.all_different.Given as goal
 
 abbrev pub invariant-loop-done : goal.invariant-loop-done
 invariant-loop-done l =
-    Rest l.base l.number l.-done l.rest
-    × Counted l.base l.number l.-done l.counts
-    × (l.fine ≡ different (digits l.-done l.base l.number))
+    Rest l.base l.number l._done l.rest
+    × Counted l.base l.number l._done l.counts
+    × (l.fine ≡ different (digits l._done l.base l.number))

@@ -6,6 +6,6 @@ use Rattle.rule.proofs.board.Board.black.Given as goal
 
 abbrev pub invariant-loop-done : goal.invariant-loop-done
 invariant-loop-done l =
-    Rest l.base l.code l.-done l.code-rest
-    × Rest l.base l.guess l.-done l.guess-rest
-    × (l.black ≡ equal_places (digits l.-done l.base l.code) (digits l.-done l.base l.guess))
+    Rest l.base l.code l._done l.code_rest
+    × Rest l.base l.guess l._done l.guess_rest
+    × (l.black ≡ equal_places (digits l._done l.base l.code) (digits l._done l.base l.guess))

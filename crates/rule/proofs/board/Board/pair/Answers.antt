@@ -9,20 +9,20 @@ known : (c : After-compare-black) → Compared c.args.self.now.pegs c.compare-bl
 known c =
     compared _ c.args.self.now.colours c.args.code c.args.guess _ _ (omega arith) (omega arith) (omega arith) c.compare-black.ensures.black c.compare-black.ensures.white
 
-pub overflow-sub-before : goal.overflow-sub-before
-overflow-sub-before c = omega (arith, (known (goal.at.overflow-sub-before c).After-compare-black).few)
+pub overflow_sub-before : goal.overflow_sub-before
+overflow_sub-before c = omega (arith, (known (goal.at.overflow_sub-before c).After-compare-black).few)
 
-pub overflow-mul-before-2 : goal.overflow-mul-before-2
-overflow-mul-before-2 c = let small = (known (goal.at.overflow-mul-before-2 c).After-compare-black).product in search rules
+pub overflow_mul-before-2 : goal.overflow_mul-before-2
+overflow_mul-before-2 c = let small = (known (goal.at.overflow_mul-before-2 c).After-compare-black).product in search rules
 
-pub overflow-add-before-2 : goal.overflow-add-before-2
-overflow-add-before-2 c =
-    let small = (known (goal.at.overflow-add-before-2 c).After-compare-black).product in
-    let both = (known (goal.at.overflow-add-before-2 c).After-compare-black).both in
+pub overflow_add-before-2 : goal.overflow_add-before-2
+overflow_add-before-2 c =
+    let small = (known (goal.at.overflow_add-before-2 c).After-compare-black).product in
+    let both = (known (goal.at.overflow_add-before-2 c).After-compare-black).both in
     search rules
 
-pub overflow-sub-result : goal.overflow-sub-result
-overflow-sub-result c = omega (arith, ((known (goal.at.overflow-sub-result c).After-compare-black).last c.if-black-self.true).0)
+pub overflow_sub-result : goal.overflow_sub-result
+overflow_sub-result c = omega (arith, ((known (goal.at.overflow_sub-result c).After-compare-black).last c.if-black-self.true).0)
 
 pub returns-then-black-self : goal.returns-then-black-self
 returns-then-black-self c = omega (arith, ((known (goal.at.returns-then-black-self c).After-compare-black).last c.if-black-self.true).1)

@@ -5,6 +5,6 @@ use Rattle.rule.proofs.set.Set.is_weighing.Given as goal
 
 abbrev pub invariant-loop-done : goal.invariant-loop-done
 invariant-loop-done l =
-    Rest 3 l.number l.-done l.rest
-    × (l.left ≡ occurs 1 (digits l.-done 3 l.number))
-    × (l.right ≡ occurs 2 (digits l.-done 3 l.number))
+    Rest 3 l.number l._done l.rest
+    × (l.left ≡ occurs 1 (digits l._done 3 l.number))
+    × (l.right ≡ occurs 2 (digits l._done 3 l.number))

@@ -7,8 +7,8 @@ use Rattle.rule.proofs.set.Set.pan.Goals as goal
 pub pow-requires : goal.pow-requires
 pow-requires c = omega (arith, three_power (c.args.self.now.coins - 1 - c.args.coin) (omega arith))
 
-pub nonzero-div-result : goal.nonzero-div-result
-nonzero-div-result c = omega (arith, c.pow.ensures, power_positive 3 (c.args.self.now.coins - 1 - c.args.coin) (omega arith))
+pub nonzero_div-result : goal.nonzero_div-result
+nonzero_div-result c = omega (arith, c.pow.ensures, power_positive 3 (c.args.self.now.coins - 1 - c.args.coin) (omega arith))
 
 pub returns : goal.returns
 returns c = (
