@@ -1,5 +1,5 @@
 -- What is counted of a game. Assumes nothing.
-use Rattle.std.specs.Prelude.{ℕ, eqb}
+use Rattle.std.specs.Prelude.{ℕ, ◌==◌}
 use Rattle.rule.specs.Digits.{how_many}
 use Rattle.rule.specs.Meaning.{Meaning}
 
@@ -11,4 +11,4 @@ guesses_of m = how_many m.guess_bound m.admits
 
 -- how many codes have an answer to a guess: a number that is no code has none of the answers
 abbrev pub that_answer : Meaning → ℕ → ℕ → ℕ
-that_answer m guess answer = how_many m.code_bound (λ code. eqb (m.answer code guess) answer)
+that_answer m guess answer = how_many m.code_bound (λ code. m.answer code guess == answer)

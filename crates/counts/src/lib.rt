@@ -1,13 +1,13 @@
 // What is counted of a game: its codes, its admitted guesses, and how a guess divides the codes.
 #![tactic(auto)]
 
-ghost use Rattle.std.specs.Prelude.{◌≡◌, ℕ, ◌<◌, get_or};
+ghost use Rattle.std.specs.Prelude.{◌≡◌, ℕ, ◌<◌, slice_index};
 ghost use Rattle.counts.specs.Counts.{codes_of, guesses_of, that_answer};
 
 use rule::AnswerRule;
 
 pub fn count_codes<R: AnswerRule>(rule: &R) -> u32
-    ensures { result ≡ codes_of (meaning rule.now) }
+    ensures { result ≡ codes_of (R.meaning rule.now) }
 {
     let mut count = 0u32;
     for number in 0..rule.code_bound() {
@@ -17,7 +17,7 @@ pub fn count_codes<R: AnswerRule>(rule: &R) -> u32
 }
 
 pub fn count_guesses<R: AnswerRule>(rule: &R) -> u32
-    ensures { result ≡ guesses_of (meaning rule.now) }
+    ensures { result ≡ guesses_of (R.meaning rule.now) }
 {
     let mut count = 0u32;
     for number in 0..rule.guess_bound() {
@@ -28,7 +28,7 @@ pub fn count_guesses<R: AnswerRule>(rule: &R) -> u32
 
 // How many codes have an answer to a guess.
 pub fn count_that_answer<R: AnswerRule>(rule: &R, guess: u32, answer: u8) -> u32
-    ensures { result ≡ that_answer (meaning rule.now) guess answer }
+    ensures { result ≡ that_answer (R.meaning rule.now) guess answer }
 {
     let mut count = 0u32;
     for number in 0..rule.code_bound() {
@@ -39,7 +39,7 @@ pub fn count_that_answer<R: AnswerRule>(rule: &R, guess: u32, answer: u8) -> u32
 
 // How a guess divides the codes: at each answer's place, how many codes have it. No game has more answers than places here.
 pub fn divide<R: AnswerRule>(rule: &R, guess: u32) -> [u32; 64]
-    ensures { (a : ℕ) → a < 64 → get_or result a 0 ≡ that_answer (meaning rule.now) guess a }
+    ensures { (a : ℕ) → a < 64 → slice_index result a ≡ that_answer (R.meaning rule.now) guess a }
 {
     let mut division = [0u32; 64];
     for answer in 0..64usize {

@@ -1,6 +1,4 @@
-use Prim.Native.Nat.{ℕ}
-use mathlib.Core.Bool.{Bool}
-use borrow.Author.Rules.{rules}
+use Rattle.std.proofs.Common.{ℕ, Bool, rules}
 use Rattle.rule.proofs.Counts.{byte_tally, tally_le}
 use Rattle.counts.proofs.Counting.{how_many_more}
 use Rattle.counts.proofs.count_codes.Goals as goal

@@ -1,14 +1,11 @@
-use Prim.Native.Nat.{ℕ}
-use mathlib.Core.Bool.{Bool}
-use lib.Dec.{eqb}
-use borrow.Author.Rules.{rules}
+use Rattle.std.proofs.Common.{ℕ, Bool, ◌==◌, rules}
 use Rattle.rule.proofs.Counts.{byte_tally, tally_le}
 use Rattle.counts.proofs.Counting.{how_many_more}
 use Rattle.counts.proofs.count_that_answer.Goals as goal
 
 pub loop-number-preserved : goal.loop-number-preserved
 loop-number-preserved g c =
-    let test : ℕ → Bool = λ code. eqb ((g.R.AnswerRule.meaning c.args.rule.now).answer code c.args.guess) c.args.answer in
+    let test : ℕ → Bool = λ code. (g.R.AnswerRule.meaning c.args.rule.now).answer code c.args.guess == c.args.answer in
     let more = how_many_more c.loop-number.number test in
     let same = byte_tally (test c.loop-number.number) in
     let few = tally_le (test c.loop-number.number) in

@@ -8,8 +8,8 @@ use Rattle.writer.proofs.round.reread.Goals as goal
 
 pub returns : goal.returns
 returns c =
-    let n = c.in-ok-bytes.bytes in
-    let w = c.in-ok-bytes.ensures in
+    let n = c.in_ok-bytes.bytes in
+    let w = c.in_ok-bytes.ensures in
     let e : n ≡ n - 0 = omega arith in
     let back = subst (λ k. Reads Either (take k c.write.new.out) (paper_of c.args.sheet)) e w.back in
     MatchResult-weaker c.read.result c.read.ensures

@@ -7,13 +7,13 @@ use Rattle.writer.proofs.round.rewrite.Goals as goal
 
 pub returns : goal.returns
 returns c =
-    let bytes = λ (i : ℕ). (c.type-inv.file i).fits in
-    let read = subst (Reads Either c.args.file.now) (sym c.sheet-of.ensures) c.in-ok-document.ensures in
+    let bytes = λ (i : ℕ). (c.type_inv.file i).fits in
+    let read = subst (Reads Either c.args.file.now) (sym c.sheet_of.ensures) c.in_ok-document.ensures in
     MatchResult-weaker c.write.result c.write.ensures
     (λ n h. rewritten c.args.file.now bytes _ read n _ _ h)
     (λ f h. (h.0, not_rewritten c.args.file.now bytes _ read f.fault _ h.1))
 
-pub returns-in-err-document : goal.returns-in-err-document
-returns-in-err-document c =
-    let p = err_from_is_err_and c.from-residual.result c.from-residual.ensures.1 in
-    rw (p.1, p.2) (refl, not_reread c.args.file.now (length c.args.out.now) _ c.in-err-document.ensures)
+pub returns-in_err-document : goal.returns-in_err-document
+returns-in_err-document c =
+    let p = err_from_is_err_and c.from_residual.result c.from_residual.ensures.1 in
+    rw (p.1, p.2) (refl, not_reread c.args.file.now (length c.args.out.now) _ c.in_err-document.ensures)
