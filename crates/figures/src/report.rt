@@ -22,7 +22,7 @@ impl fmt::Display for Verdict {
 }
 
 // Why the report ends early or ends badly.
-#[derive(Drop)]
+#[derive(Debug, Drop)]
 pub enum Stop {
     Refused(Fault),
     Unwritten(io::Error),
