@@ -1,13 +1,13 @@
 // How many codes a number of guesses can find at most.
 ghost use Rattle.std.specs.Prelude.{◌≡◌, ℕ, ◌<◌, min, slice_index};
-ghost use Rattle.strategy.specs.Strategy.{places as most-codes};
+ghost use Rattle.strategy.specs.Strategy.{places as most_codes};
 
 use crate::report::{Stop, Tally};
 use strategy::places;
 
 // A row of places, from no guess to four.
 fn first_places(naming: bool, answers: u8) -> [u32; 5]
-    ensures { (k : ℕ) → k < 5 → slice_index result k ≡ min (most-codes naming answers k) 16384 }
+    ensures { (k : ℕ) → k < 5 → slice_index result k ≡ min (most_codes naming answers k) 16384 }
 {
     let mut row = [0u32; 5];
     for guesses in 0..5usize {

@@ -29,10 +29,10 @@ impl<R: AnswerRule> Blur<R> {
     // Each answer of the rule below is sent to the one that its byte names.
     pub fn new(below: R, bytes: &[u8], answers: u8) -> Result<Blur<R>, Returned<R>>
         ensures { MatchResult result
-            (λ layer. (blur_fits (R.AnswerRule.meaning below) bytes.now answers ≡ true)
-            × (any_blur (R.AnswerRule.meaning layer.below) layer.sends layer.answers ≡ blurred (R.AnswerRule.meaning below) bytes.now answers)
+            (λ layer. (blur_fits (R.meaning below) bytes.now answers ≡ true)
+            × (any_blur (R.meaning layer.below) layer.sends layer.answers ≡ blurred (R.meaning below) bytes.now answers)
             × (layer.below ≡ below))
-            (λ back. (blur_fits (R.AnswerRule.meaning below) bytes.now answers ≡ false) × (back.fault ≡ refusal BlurTable) × (back.below ≡ below)) }
+            (λ back. (blur_fits (R.meaning below) bytes.now answers ≡ false) × (back.fault ≡ refusal BlurTable) × (back.below ≡ below)) }
     {
         if fits(&below, bytes, answers) {
             Ok(Blur {
@@ -50,7 +50,7 @@ impl<R: AnswerRule> Blur<R> {
 
     // Where an answer of the rule below goes.
     fn send(&self, answer: u8) -> u8
-        ensures { result ≡ sent (R.AnswerRule.meaning self.now.below) self.now.sends (nearest 2 64 self.now.answers) answer }
+        ensures { result ≡ sent (R.meaning self.now.below) self.now.sends (nearest 2 64 self.now.answers) answer }
     {
         let naming = self.below.is_naming();
         let last = self.answers.max(2).min(64) - 1;
@@ -80,7 +80,7 @@ fn padded(bytes: &[u8]) -> [u8; 64]
 
 // Whether bytes can blur a rule to so many answers.
 fn fits<R: AnswerRule>(below: &R, bytes: &[u8], answers: u8) -> bool
-    ensures { result ≡ blur_fits (R.AnswerRule.meaning below.now) bytes.now answers }
+    ensures { result ≡ blur_fits (R.meaning below.now) bytes.now answers }
 {
     answers >= 2
         && answers <= 64
@@ -102,9 +102,9 @@ fn wins_alone(bytes: &[u8], win: u8) -> bool
 }
 
 impl<R: AnswerRule> AnswerRule for Blur<R> {
-    ghost meaning = { λ layer. any_blur (R.AnswerRule.meaning layer.below) layer.sends layer.answers };
+    ghost meaning = { λ layer. any_blur (R.meaning layer.below) layer.sends layer.answers };
 
-    ghost lawful = { λ layer. any_blur_lawful (R.AnswerRule.meaning layer.below) (R.AnswerRule.lawful layer.below) layer.sends layer.answers };
+    ghost lawful = { λ layer. any_blur_lawful (R.meaning layer.below) (R.lawful layer.below) layer.sends layer.answers };
 
     fn code_bound(&self) -> u32 {
         self.below.code_bound()

@@ -29,8 +29,8 @@ impl<R: AnswerRule> Hints<R> {
 
     // Enters what a player was told: the answer to a guess. For a guess that has a hint already, the answer replaces the old one.
     pub fn hint(&mut self, guess: u32, answer: u8) -> Result<(), Fault>
-        ensures value { result ≡ hint_result (R.AnswerRule.meaning self.old.below) (listed self.old.notes) (record { guess = guess; answer = answer }) }
-        ensures hints { listed self.new.notes ≡ hints_after (R.AnswerRule.meaning self.old.below) (listed self.old.notes) (record { guess = guess; answer = answer }) }
+        ensures value { result ≡ hint_result (R.meaning self.old.below) (listed self.old.notes) (record { guess = guess; answer = answer }) }
+        ensures hints { listed self.new.notes ≡ hints_after (R.meaning self.old.below) (listed self.old.notes) (record { guess = guess; answer = answer }) }
         ensures below { self.new.below ≡ self.old.below }
     {
         if !self.below.admits(guess) || answer >= self.below.answers() {
@@ -45,7 +45,7 @@ impl<R: AnswerRule> Hints<R> {
 
     // Whether a number agrees with each hint in turn, as the rule below answers.
     fn agrees(&self, code: u32) -> bool
-        ensures { result ≡ agrees (R.AnswerRule.meaning self.now.below) code (listed self.now.notes) }
+        ensures { result ≡ agrees (R.meaning self.now.below) code (listed self.now.notes) }
     {
         for at in 0..self.notes.len() {
             let hint = self.notes.entry(at);
@@ -58,9 +58,9 @@ impl<R: AnswerRule> Hints<R> {
 }
 
 impl<R: AnswerRule> AnswerRule for Hints<R> {
-    ghost meaning = { λ layer. hinted (R.AnswerRule.meaning layer.below) (listed layer.notes) };
+    ghost meaning = { λ layer. hinted (R.meaning layer.below) (listed layer.notes) };
 
-    ghost lawful = { λ layer. hinted_lawful (R.AnswerRule.meaning layer.below) (R.AnswerRule.lawful layer.below) (listed layer.notes) };
+    ghost lawful = { λ layer. hinted_lawful (R.meaning layer.below) (R.lawful layer.below) (listed layer.notes) };
 
     fn code_bound(&self) -> u32 {
         self.below.code_bound()

@@ -2,7 +2,7 @@
 ghost use Rattle.std.specs.Prelude.{◌≡◌, true, false, MatchResult};
 ghost use Rattle.fault.specs.declared.Check.TheVariants.{GameParameters};
 ghost use Rattle.fault.specs.Faults.{refusal};
-ghost use Rattle.rule.specs.Pegs.{board_fits, blacks as black-game};
+ghost use Rattle.rule.specs.Pegs.{board_fits, blacks as black_game};
 ghost use Rattle.rule.specs.Laws.Kept.{blacks_rule};
 ghost use Rattle.rule.specs.Rules.{blacks_of};
 
@@ -18,7 +18,7 @@ pub struct Blacks {
 impl Blacks {
     pub fn new(pegs: u32, colours: u32, repeats: bool) -> Result<Blacks, Fault>
         ensures { MatchResult result
-            (λ rule. (board_fits pegs colours repeats ≡ true) × (blacks_of rule ≡ black-game pegs colours repeats))
+            (λ rule. (board_fits pegs colours repeats ≡ true) × (blacks_of rule ≡ black_game pegs colours repeats))
             (λ f. (board_fits pegs colours repeats ≡ false) × (f ≡ refusal GameParameters)) }
     {
         Ok(Blacks {

@@ -2,7 +2,7 @@
 ghost use Rattle.std.specs.Prelude.{◌≡◌, true, false, MatchResult};
 ghost use Rattle.fault.specs.declared.Check.TheVariants.{GameParameters};
 ghost use Rattle.fault.specs.Faults.{refusal};
-ghost use Rattle.rule.specs.Coins.{coins_fit, coins as coin-game};
+ghost use Rattle.rule.specs.Coins.{coins_fit, coins as coin_game};
 ghost use Rattle.rule.specs.Laws.Kept.{coins_rule};
 ghost use Rattle.rule.specs.Rules.{coins_of};
 
@@ -18,7 +18,7 @@ pub struct Coins {
 impl Coins {
     pub fn new(coins: u32) -> Result<Coins, Fault>
         ensures { MatchResult result
-            (λ rule. (coins_fit coins ≡ true) × (coins_of rule ≡ coin-game coins))
+            (λ rule. (coins_fit coins ≡ true) × (coins_of rule ≡ coin_game coins))
             (λ f. (coins_fit coins ≡ false) × (f ≡ refusal GameParameters)) }
     {
         if coins < 2 || coins > 12 {

@@ -2,7 +2,7 @@
 ghost use Rattle.std.specs.Prelude.{◌≡◌, true, false, MatchResult};
 ghost use Rattle.fault.specs.declared.Check.TheVariants.{GameParameters};
 ghost use Rattle.fault.specs.Faults.{refusal};
-ghost use Rattle.rule.specs.Pegs.{board_fits, pegs as peg-game};
+ghost use Rattle.rule.specs.Pegs.{board_fits, pegs as peg_game};
 ghost use Rattle.rule.specs.Laws.Kept.{pegs_rule};
 ghost use Rattle.rule.specs.Rules.{pegs_of};
 
@@ -18,7 +18,7 @@ pub struct Pegs {
 impl Pegs {
     pub fn new(pegs: u32, colours: u32, repeats: bool) -> Result<Pegs, Fault>
         ensures { MatchResult result
-            (λ rule. (board_fits pegs colours repeats ≡ true) × (pegs_of rule ≡ peg-game pegs colours repeats))
+            (λ rule. (board_fits pegs colours repeats ≡ true) × (pegs_of rule ≡ peg_game pegs colours repeats))
             (λ f. (board_fits pegs colours repeats ≡ false) × (f ≡ refusal GameParameters)) }
     {
         Ok(Pegs {

@@ -4,7 +4,7 @@ ghost use Rattle.fault.specs.declared.Check.TheVariants.{TableShape};
 ghost use Rattle.fault.specs.Faults.{refusal};
 ghost use Rattle.rule.specs.Laws.Kept.{table_rule};
 ghost use Rattle.rule.specs.Rules.{table_of};
-ghost use Rattle.rule.specs.Table.{all_under, table_fits, table as table-game};
+ghost use Rattle.rule.specs.Table.{all_under, table_fits, table as table_game};
 
 use crate::interface::AnswerRule;
 use fault::{Check, Fault, Place};
@@ -21,7 +21,7 @@ impl<'a> Table<'a> {
     // The bytes stay the caller's: they are lent for as long as the rule lives.
     pub fn new(bytes: &'a [u8], rows: u32, codes: u32, answers: u8) -> Result<Table<'a>, Fault>
         ensures { MatchResult result
-            (λ rule. (table_fits rows codes answers bytes.now ≡ true) × (table_of rule ≡ table-game rows codes answers bytes.now))
+            (λ rule. (table_fits rows codes answers bytes.now ≡ true) × (table_of rule ≡ table_game rows codes answers bytes.now))
             (λ f. (table_fits rows codes answers bytes.now ≡ false) × (f ≡ refusal TableShape)) }
     {
         if fits(bytes, rows, codes, answers) {
