@@ -33,7 +33,7 @@ record_at bs i =
       span = four_at bs (12 * i + 8);
     }
 
--- the last 24 bytes of a document: its letter, edition 1, title length, number of records, figures, distance back to the first record, game
+-- the trailer, which ends a document: what it is, in which edition, how long its parts are, its figures, and which game it is for
 abbrev pub trailer : ℕ → ℕ → ℕ → ℕ → ℕ → ℕ → List ℕ
 trailer letter title count first second game =
     letter ∷ 1 ∷ two title ++ (four count ++ (four first ++ (four second ++ (four (12 * count) ++ four game))))

@@ -16,7 +16,7 @@ abbrev pub load : ℕ → ℕ → ℕ → List ℕ → ℕ
 load pan code i [] = 0
 load pan code i (x ∷ xs) = cond (x == pan) (weight code i) 0 + load pan code (suc i) xs
 
--- the balance: 0 level, 1 the left pan is heavier, 2 the right pan is heavier
+-- how the balance tips: by 1 where it goes down on the left, by 2 on the right, and by 0 where the loads are equal
 abbrev pub balance : ℕ → ℕ → ℕ
 balance left right = cond (left == right) 0 (cond (nat_lt right left) 1 2)
 
@@ -29,7 +29,7 @@ is_weighing n g =
 unfoldable pub weighed : ℕ → ℕ → ℕ → ℕ
 weighed n code g = balance (load 1 code 0 (digits n 3 g)) (load 2 code 0 (digits n 3 g))
 
--- the game with n coins, one of them false: code 2i says that coin i is heavy, code 2i + 1 that it is light
+-- the game with n coins, one of them false: the false coin's index is half the code, and an odd code means that it is light
 abbrev pub coins : ℕ → Meaning
 coins n = record {
   code_bound = 2 * n;

@@ -7,7 +7,7 @@ abbrev pub all_under : ℕ → List ℕ → Bool
 all_under a [] = true
 all_under a (x ∷ xs) = nat_lt x a && all_under a xs
 
--- the tables that can be played: a row for each guess, in it a byte for each code
+-- the tables that can be played: the answers to the first guess come first, in the order of the codes, then those to the next
 abbrev pub table_fits : ℕ → ℕ → ℕ → List ℕ → Bool
 table_fits rows codes a bytes =
     nat_le 1 rows && nat_le rows 4096 && nat_le 2 codes && nat_le codes 16384 && nat_le (rows * codes) 65536

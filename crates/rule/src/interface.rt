@@ -2,7 +2,7 @@
 ghost use Rattle.std.specs.Prelude.{◌≡◌};
 ghost use Rattle.rule.specs.Meaning.{Meaning, Lawful};
 
-// A game, as its questions answer it. Each question answers for every number, refuses nothing and changes nothing.
+// A game, known by what it says when it is asked. Any number may be asked about, and asking leaves the game as it was.
 pub trait AnswerRule {
     ghost meaning: { Self → Meaning };
 
@@ -31,7 +31,8 @@ pub trait AnswerRule {
     fn is_naming(&self) -> bool
         ensures { result ≡ (meaning self.now).naming };
 
-    // The answer of a code to an admitted guess; for any other pair, the number of answers.
+    // What is said to a guess when this is the code: an answer where the two can be played, and else the first number that
+    // is none.
     fn answer(&self, code: u32, guess: u32) -> u8
         ensures { result ≡ (meaning self.now).answer code guess };
 }

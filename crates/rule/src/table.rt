@@ -1,4 +1,4 @@
-// The game given by a table of its answers: a row for each guess, in it a byte for each code.
+// The game given by a table of its answers. The table goes by guesses, and the row of a guess has what each code answers.
 ghost use Rattle.std.specs.Prelude.{◌≡◌, true, false, MatchResult, slice_index};
 ghost use Rattle.fault.specs.declared.Check.TheVariants.{TableShape};
 ghost use Rattle.fault.specs.Faults.{refusal};

@@ -30,7 +30,7 @@ fn shown_whole<'a>(source: Source, title: &'a [u8]) -> Shown<'a>
     }
 }
 
-// The house's line where it has any byte, otherwise the supplier's.
+// An empty house line gives way to the supplier's.
 pub fn title_to_show<'a>(house: &'a [u8], supplier: &'a [u8]) -> Shown<'a>
     ensures { Shows house.now supplier.now result }
 {
