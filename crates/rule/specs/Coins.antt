@@ -2,6 +2,8 @@
 use Rattle.std.specs.Prelude.{ℕ, suc, ◌+◌, ◌*◌, ◌^◌, Bool, false, cond, ◌&&◌, List, [], ◌∷◌, ◌==◌, nat_le, nat_lt}
 use Rattle.rule.specs.Digits.{digits, occurs}
 use Rattle.rule.specs.Meaning.{Meaning}
+use Rattle.rule.specs.declared.set.Pan.{Pan}
+use Rattle.rule.specs.declared.set.Pan.TheVariants.{Aside, Left, Right}
 
 -- how many coins can be played with
 abbrev pub coins_fit : ℕ → Bool
@@ -10,6 +12,18 @@ coins_fit n = nat_le 2 n && nat_le n 12
 -- what coin i weighs under a code: 2 when good, 3 when the code says that it is heavy, 1 when light
 abbrev pub weight : ℕ → ℕ → ℕ
 weight code i = cond (code == 2 * i) 3 (cond (code == 2 * i + 1) 1 2)
+
+-- the digit that puts a coin there, and the answer when that pan goes down
+abbrev pub pan_digit : Pan → ℕ
+pan_digit Aside = 0
+pan_digit Left = 1
+pan_digit Right = 2
+
+-- the pan on the other side
+abbrev pub opposite : Pan → Pan
+opposite Aside = Aside
+opposite Left = Right
+opposite Right = Left
 
 -- what lies on a pan, from coin i on: each digit says where its coin goes, 0 aside, 1 left and 2 right
 abbrev pub load : ℕ → ℕ → ℕ → List ℕ → ℕ

@@ -59,26 +59,35 @@ unfoldable pub peg_answer : ℕ → ℕ → ℕ → ℕ → ℕ
 peg_answer p c code guess =
     position (equal_places (digits p c code) (digits p c guess), white c (digits p c code) (digits p c guess)) (pairs p)
 
--- the game that answers black and white
-abbrev pub pegs : ℕ → ℕ → Bool → Meaning
-pegs p c repeats = record {
+-- The game with rows of p pegs in c colours as codes and as guesses, whichever way two rows are compared: how many answers
+-- so many pegs have, and the answer of so many pegs and colours to a code and a guess.
+abbrev pub row_game : (ℕ → ℕ) → (ℕ → ℕ → ℕ → ℕ → ℕ) → ℕ → ℕ → Bool → Meaning
+row_game answers answer p c repeats = record {
   code_bound = c ^ p;
   guess_bound = c ^ p;
   is_code = is_row p c repeats;
   admits = is_row p c repeats;
-  answers = length (pairs p);
+  answers = answers p;
   naming = true;
-  answer = λ code guess. cond (is_row p c repeats code && is_row p c repeats guess) (peg_answer p c code guess) (length (pairs p));
+  answer = λ code guess. cond (is_row p c repeats code && is_row p c repeats guess) (answer p c code guess) (answers p);
 }
+
+-- how many pairs of black and white p pegs can answer
+abbrev pub peg_answers : ℕ → ℕ
+peg_answers p = length (pairs p)
+
+-- the game that answers black and white
+abbrev pub pegs : ℕ → ℕ → Bool → Meaning
+pegs = row_game peg_answers peg_answer
+
+-- from none of p pegs in place to all of them
+abbrev pub black_answers : ℕ → ℕ
+black_answers p = p + 1
+
+-- how many pegs of two rows are in place
+abbrev pub black_answer : ℕ → ℕ → ℕ → ℕ → ℕ
+black_answer p c code guess = equal_places (digits p c code) (digits p c guess)
 
 -- the game that answers black alone
 abbrev pub blacks : ℕ → ℕ → Bool → Meaning
-blacks p c repeats = record {
-  code_bound = c ^ p;
-  guess_bound = c ^ p;
-  is_code = is_row p c repeats;
-  admits = is_row p c repeats;
-  answers = p + 1;
-  naming = true;
-  answer = λ code guess. cond (is_row p c repeats code && is_row p c repeats guess) (equal_places (digits p c code) (digits p c guess)) (p + 1);
-}
+blacks = row_game black_answers black_answer

@@ -3,15 +3,16 @@ use Rattle.rule.specs.Coins.{coins}
 use Rattle.rule.specs.Meaning.{Meaning}
 use Rattle.rule.specs.Pegs.{pegs, blacks}
 use Rattle.rule.specs.Table.{any_table}
-use Rattle.rule.specs.declared.blacks.Blacks.{Blacks}
+use Rattle.rule.specs.declared.blacks.BlackAlone.{BlackAlone}
 use Rattle.rule.specs.declared.coins.Coins.{Coins}
-use Rattle.rule.specs.declared.pegs.Pegs.{Pegs}
+use Rattle.rule.specs.declared.pegs.BlackAndWhite.{BlackAndWhite}
+use Rattle.rule.specs.declared.row_game.RowGame.{RowGame}
 use Rattle.rule.specs.declared.table.Table.{Table}
 
-abbrev pub pegs_of : Pegs → Meaning
+abbrev pub pegs_of : RowGame BlackAndWhite → Meaning
 pegs_of rule = pegs rule.board.pegs rule.board.colours rule.board.repeats
 
-abbrev pub blacks_of : Blacks → Meaning
+abbrev pub blacks_of : RowGame BlackAlone → Meaning
 blacks_of rule = blacks rule.board.pegs rule.board.colours rule.board.repeats
 
 abbrev pub coins_of : Coins → Meaning

@@ -1,11 +1,11 @@
 -- The game given by a table of its answers. Assumes nothing.
-use Rattle.std.specs.Prelude.{ℕ, ◌+◌, ◌*◌, min, max, Bool, true, false, cond, ◌&&◌, List, [], ◌∷◌, length, ◌==◌, nat_le, nat_lt, slice_index}
+use Rattle.std.specs.Prelude.{ℕ, ◌+◌, ◌*◌, min, max, Bool, false, cond, ◌&&◌, List, length, ◌==◌, nat_le, nat_lt, slice_index}
+use Rattle.std.specs.List.{list_all}
 use Rattle.rule.specs.Meaning.{Meaning}
 
 -- each byte is an answer
 abbrev pub all_under : ℕ → List ℕ → Bool
-all_under a [] = true
-all_under a (x ∷ xs) = nat_lt x a && all_under a xs
+all_under a bytes = list_all (λ x. nat_lt x a) bytes
 
 -- the tables that can be played: the answers to the first guess come first, in the order of the codes, then those to the next
 abbrev pub table_fits : ℕ → ℕ → ℕ → List ℕ → Bool

@@ -1,66 +1,28 @@
 // The game that answers black alone: how many pegs are in place.
-ghost use Rattle.std.specs.Prelude.{◌≡◌, true, false, MatchResult};
-ghost use Rattle.fault.specs.declared.Check.TheVariants.{GameParameters};
-ghost use Rattle.fault.specs.Faults.{refusal};
-ghost use Rattle.rule.specs.Pegs.{board_fits, blacks as black_game};
-ghost use Rattle.rule.specs.Laws.Kept.{blacks_rule};
-ghost use Rattle.rule.specs.Rules.{blacks_of};
+ghost use Rattle.rule.specs.Pegs.{black_answers, black_answer};
 
 use crate::board::Board;
-use crate::interface::AnswerRule;
-use fault::Fault;
+use crate::row_game::{Marking, RowGame};
 
 #[derive(Clone, Copy)]
-pub struct Blacks {
-    board: Board,
-}
+pub struct BlackAlone;
 
-impl Blacks {
-    pub fn new(pegs: u32, colours: u32, repeats: bool) -> Result<Blacks, Fault>
-        ensures { MatchResult result
-            (λ rule. (board_fits pegs colours repeats ≡ true) × (blacks_of rule ≡ black_game pegs colours repeats))
-            (λ f. (board_fits pegs colours repeats ≡ false) × (f ≡ refusal GameParameters)) }
-    {
-        Ok(Blacks {
-            board: Board::new(pegs, colours, repeats)?,
-        })
+impl Marking for BlackAlone {
+    ghost use Rattle.rule.specs.Laws.PegLaws.{blacks_lawful};
+
+    ghost answers = { black_answers };
+
+    ghost answer = { black_answer };
+
+    ghost lawful = { blacks_lawful };
+
+    fn answers(board: &Board) -> u8 {
+        board.pegs() + 1
+    }
+
+    fn answer(board: &Board, code: u32, guess: u32) -> u8 {
+        board.black(code, guess)
     }
 }
 
-impl AnswerRule for Blacks {
-    ghost meaning = { blacks_of };
-
-    ghost lawful = { blacks_rule };
-
-    fn code_bound(&self) -> u32 {
-        self.board.rows()
-    }
-
-    fn guess_bound(&self) -> u32 {
-        self.board.rows()
-    }
-
-    fn is_code(&self, number: u32) -> bool {
-        self.board.holds(number)
-    }
-
-    fn admits(&self, number: u32) -> bool {
-        self.board.holds(number)
-    }
-
-    fn answers(&self) -> u8 {
-        self.board.pegs() + 1
-    }
-
-    fn is_naming(&self) -> bool {
-        true
-    }
-
-    fn answer(&self, code: u32, guess: u32) -> u8 {
-        if self.board.holds(code) && self.board.holds(guess) {
-            self.board.black(code, guess)
-        } else {
-            self.board.pegs() + 1
-        }
-    }
-}
+pub type Blacks = RowGame<BlackAlone>;

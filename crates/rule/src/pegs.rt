@@ -1,66 +1,28 @@
 // The game that answers black and white: pegs in place, and pegs of a right colour elsewhere.
-ghost use Rattle.std.specs.Prelude.{◌≡◌, true, false, MatchResult};
-ghost use Rattle.fault.specs.declared.Check.TheVariants.{GameParameters};
-ghost use Rattle.fault.specs.Faults.{refusal};
-ghost use Rattle.rule.specs.Pegs.{board_fits, pegs as peg_game};
-ghost use Rattle.rule.specs.Laws.Kept.{pegs_rule};
-ghost use Rattle.rule.specs.Rules.{pegs_of};
+ghost use Rattle.rule.specs.Pegs.{peg_answers, peg_answer};
 
 use crate::board::Board;
-use crate::interface::AnswerRule;
-use fault::Fault;
+use crate::row_game::{Marking, RowGame};
 
 #[derive(Clone, Copy)]
-pub struct Pegs {
-    board: Board,
-}
+pub struct BlackAndWhite;
 
-impl Pegs {
-    pub fn new(pegs: u32, colours: u32, repeats: bool) -> Result<Pegs, Fault>
-        ensures { MatchResult result
-            (λ rule. (board_fits pegs colours repeats ≡ true) × (pegs_of rule ≡ peg_game pegs colours repeats))
-            (λ f. (board_fits pegs colours repeats ≡ false) × (f ≡ refusal GameParameters)) }
-    {
-        Ok(Pegs {
-            board: Board::new(pegs, colours, repeats)?,
-        })
+impl Marking for BlackAndWhite {
+    ghost use Rattle.rule.specs.Laws.PegLaws.{pegs_lawful};
+
+    ghost answers = { peg_answers };
+
+    ghost answer = { peg_answer };
+
+    ghost lawful = { pegs_lawful };
+
+    fn answers(board: &Board) -> u8 {
+        board.pairs()
+    }
+
+    fn answer(board: &Board, code: u32, guess: u32) -> u8 {
+        board.pair(code, guess)
     }
 }
 
-impl AnswerRule for Pegs {
-    ghost meaning = { pegs_of };
-
-    ghost lawful = { pegs_rule };
-
-    fn code_bound(&self) -> u32 {
-        self.board.rows()
-    }
-
-    fn guess_bound(&self) -> u32 {
-        self.board.rows()
-    }
-
-    fn is_code(&self, number: u32) -> bool {
-        self.board.holds(number)
-    }
-
-    fn admits(&self, number: u32) -> bool {
-        self.board.holds(number)
-    }
-
-    fn answers(&self) -> u8 {
-        self.board.pairs()
-    }
-
-    fn is_naming(&self) -> bool {
-        true
-    }
-
-    fn answer(&self, code: u32, guess: u32) -> u8 {
-        if self.board.holds(code) && self.board.holds(guess) {
-            self.board.pair(code, guess)
-        } else {
-            self.board.pairs()
-        }
-    }
-}
+pub type Pegs = RowGame<BlackAndWhite>;

@@ -1,7 +1,40 @@
 // A set of coins and where a weighing puts them.
 ghost use Rattle.std.specs.Prelude.{◌≡◌, ◌*◌, ◌^◌, ◌<◌, ◌≤◌, true, slice_index};
-ghost use Rattle.rule.specs.Coins.{is_weighing, weighed};
+ghost use Rattle.rule.specs.Coins.{is_weighing, weighed, pan_digit, opposite};
 ghost use Rattle.rule.specs.Digits.{digits};
+
+// Where a coin lies in a weighing, or which pan goes down.
+#[derive(Clone, Copy)]
+pub enum Pan {
+    Aside,
+    Left,
+    Right,
+}
+
+impl Pan {
+    // A coin that lies aside has no other pan.
+    fn opposite(self) -> Pan
+        ensures { result ≡ opposite self }
+    {
+        match self {
+            Pan::Aside => Pan::Aside,
+            Pan::Left => Pan::Right,
+            Pan::Right => Pan::Left,
+        }
+    }
+}
+
+impl From<Pan> for u8 {
+    ghost from_gives = { λ pan digit. digit ≡ pan_digit pan };
+
+    fn from(pan: Pan) -> u8 {
+        match pan {
+            Pan::Aside => 0,
+            Pan::Left => 1,
+            Pan::Right => 2,
+        }
+    }
+}
 
 // How many coins there are, and in how many ways they can be put left, right or aside.
 #[derive(Clone, Copy)]
@@ -54,12 +87,16 @@ impl Set {
         left == right && left >= 1
     }
 
-    // Where a weighing puts a coin: 0 aside, 1 left, 2 right.
-    fn pan(&self, weighing: u32, coin: u32) -> u32
+    // Where a weighing puts a coin.
+    fn pan(&self, weighing: u32, coin: u32) -> Pan
         requires { coin < self.now.coins }
-        ensures { (result ≡ slice_index (digits self.now.coins 3 weighing) coin) × (result < 3) }
+        ensures { pan_digit result ≡ slice_index (digits self.now.coins 3 weighing) coin }
     {
-        weighing / 3u32.pow(self.coins - 1 - coin) % 3
+        match weighing / 3u32.pow(self.coins - 1 - coin) % 3 {
+            0 => Pan::Aside,
+            1 => Pan::Left,
+            _ => Pan::Right,
+        }
     }
 
     // What the balance shows: a heavy coin presses its own pan down, and a light one the other.
@@ -67,13 +104,11 @@ impl Set {
         requires { (code < 2 * self.now.coins) × (is_weighing self.now.coins weighing ≡ true) }
         ensures { result ≡ weighed self.now.coins code weighing }
     {
-        let pan = self.pan(weighing, code / 2) as u8;
+        let own = self.pan(weighing, code / 2);
         if code % 2 == 0 {
-            pan
-        } else if pan == 0 {
-            0
+            own.into()
         } else {
-            3 - pan
+            own.opposite().into()
         }
     }
 }

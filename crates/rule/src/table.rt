@@ -24,51 +24,47 @@ impl<'a> Table<'a> {
             (λ rule. (table_fits rows codes answers bytes.now ≡ true) × (table_of rule ≡ table_game rows codes answers bytes.now))
             (λ f. (table_fits rows codes answers bytes.now ≡ false) × (f ≡ refusal TableShape)) }
     {
-        if fits(bytes, rows, codes, answers) {
-            Ok(Table {
-                bytes,
-                rows,
-                codes,
-                answers,
-            })
+        let table = Table {
+            bytes,
+            rows,
+            codes,
+            answers,
+        };
+        if table.fits() {
+            Ok(table)
         } else {
             Err(Check::TableShape.at(Place::Nowhere))
         }
     }
-}
 
-// Whether bytes and sizes make a table.
-fn fits(bytes: &[u8], rows: u32, codes: u32, answers: u8) -> bool
-    ensures { result ≡ table_fits rows codes answers bytes.now }
-{
-    rows >= 1
-        && rows <= 4096
-        && codes >= 2
-        && codes <= 16384
-        && rows * codes <= 65536
-        && bytes.len() == (rows * codes) as usize
-        && answers >= 2
-        && answers <= 64
-        && all_answers(bytes, answers)
+    // Whether the bytes and the sizes make a table.
+    fn fits(&self) -> bool
+        ensures { result ≡ table_fits self.now.rows self.now.codes self.now.answers self.now.bytes.now }
+    {
+        self.rows >= 1
+            && self.rows <= 4096
+            && self.codes >= 2
+            && self.codes <= 16384
+            && self.rows * self.codes <= 65536
+            && self.bytes.len() == (self.rows * self.codes) as usize
+            && self.answers >= 2
+            && self.answers <= 64
+            && all_answers(self.bytes, self.answers)
+    }
 }
 
 // Whether each byte is below a number of answers.
 pub fn all_answers(bytes: &[u8], answers: u8) -> bool
     ensures { result ≡ all_under answers bytes.now }
 {
-    for byte in bytes {
-        if *byte >= answers {
-            return false;
-        }
-    }
-    true
+    bytes.iter().all(|byte| *byte < answers)
 }
 
 // The byte at a place, or 0 past the last.
 pub fn byte_at(bytes: &[u8], place: usize) -> u8
     ensures { result ≡ slice_index bytes.now place }
 {
-    if place < bytes.len() { bytes[place] } else { 0 }
+    bytes.get(place).copied().unwrap_or(0)
 }
 
 // What no table that was made needs is here for the law, which speaks of every value of the type: sizes are kept in range,
@@ -79,11 +75,11 @@ impl<'a> AnswerRule for Table<'a> {
     ghost lawful = { table_rule };
 
     fn code_bound(&self) -> u32 {
-        self.codes.max(2).min(16384)
+        self.codes.clamp(2, 16384)
     }
 
     fn guess_bound(&self) -> u32 {
-        self.rows.max(1).min(4096)
+        self.rows.clamp(1, 4096)
     }
 
     fn is_code(&self, number: u32) -> bool {
@@ -95,7 +91,7 @@ impl<'a> AnswerRule for Table<'a> {
     }
 
     fn answers(&self) -> u8 {
-        self.answers.max(2).min(64)
+        self.answers.clamp(2, 64)
     }
 
     fn is_naming(&self) -> bool {
