@@ -6,6 +6,11 @@ abbrev pub digits : ℕ → ℕ → ℕ → List ℕ
 digits zero b n = []
 digits (suc p) b n = (n / b ^ p) % b ∷ digits p b n
 
+-- the last p digits of a number in base b, the last one first
+abbrev pub last_digits : ℕ → ℕ → ℕ → List ℕ
+last_digits zero b n = []
+last_digits (suc p) b n = n % b ∷ last_digits p b (n / b)
+
 -- one where a test passes, and nothing where it fails
 abbrev pub tally : Bool → ℕ
 tally true = 1

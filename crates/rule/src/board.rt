@@ -1,10 +1,11 @@
 // Rows of coloured pegs, read from numbers and compared.
-ghost use Rattle.std.specs.Prelude.{◌≡◌, ◌^◌, ◌<◌, ◌≤◌, min, true, false, length, MatchResult, slice_index};
+ghost use Rattle.std.specs.Prelude.{◌≡◌, ℕ, ◌^◌, ◌<◌, ◌≤◌, true, false, length, MatchResult, slice_index};
 ghost use Rattle.fault.specs.declared.Check.TheVariants.{GameParameters};
 ghost use Rattle.fault.specs.Faults.{refusal};
-ghost use Rattle.rule.specs.Pegs.{board_fits, is_row, equal_places, white, pairs, peg_answer};
-ghost use Rattle.rule.specs.Digits.{digits, different, total};
+ghost use Rattle.rule.specs.Pegs.{board_fits, is_row, equal_places, shared, pairs, peg_answer};
+ghost use Rattle.rule.specs.Digits.{digits, last_digits, occurs, different};
 
+use crate::row::Row;
 use fault::{Check, Fault, Place};
 
 // How many pegs and colours a game has, and whether a colour may come twice.
@@ -43,21 +44,32 @@ impl Board {
         })
     }
 
+    #[tactic(auto, using(crate::proofs::Lasts::length_last))]
+    // The colours of a number, from the last peg to the first.
+    fn row(&self, number: u32) -> Row
+        ensures value { result ≡ last_digits self.now.pegs self.now.colours number }
+        ensures few { length result < 7 }
+    {
+        Row::of(number, u32::from(self.colours), u32::from(self.pegs))
+    }
+
+    // How often each colour comes in the row of a number.
+    fn counts(&self, number: u32) -> [u8; 10]
+        ensures ten { length result ≡ 10 }
+        ensures each { (k : ℕ) → k < 10 → slice_index result k ≡ occurs k (digits self.now.pegs self.now.colours number) }
+    {
+        let mut counts = [0u8; 10];
+        for colour in self.row(number) {
+            counts[colour as usize] += 1;
+        }
+        counts
+    }
+
     // Whether no colour comes twice in the row of a number.
     fn all_different(&self, number: u32) -> bool
         ensures { result ≡ different (digits self.now.pegs self.now.colours number) }
     {
-        let base = u32::from(self.colours);
-        let mut counts = [0u8; 10];
-        let mut rest = number;
-        let mut fine = true;
-        for _done in 0..self.pegs {
-            let colour = (rest % base) as usize;
-            fine = (counts[colour] == 0) & fine;
-            counts[colour] += 1;
-            rest /= base;
-        }
-        fine
+        self.counts(number).iter().all(|count| *count <= 1)
     }
 
     // Whether a number is a row of this board.
@@ -68,43 +80,26 @@ impl Board {
     }
 
     // At how many places the rows of two numbers agree.
+    #[tactic(auto, using(crate::proofs::Lasts::equal_last))]
     pub(crate) fn black(&self, code: u32, guess: u32) -> u8
         ensures { result ≡ equal_places (digits self.now.pegs self.now.colours code) (digits self.now.pegs self.now.colours guess) }
     {
-        let base = u32::from(self.colours);
-        let mut code_rest = code;
-        let mut guess_rest = guess;
-        let mut black = 0u8;
-        for _done in 0..self.pegs {
-            black += u8::from(code_rest % base == guess_rest % base);
-            code_rest /= base;
-            guess_rest /= base;
-        }
-        black
+        self.row(code)
+            .zip(self.row(guess))
+            .filter(|(left, right)| left == right)
+            .count() as u8
     }
 
-    // Black and white of the rows of two numbers.
-    fn compare(&self, code: u32, guess: u32) -> (u8, u8)
-        ensures black { result.0 ≡ equal_places (digits self.now.pegs self.now.colours code) (digits self.now.pegs self.now.colours guess) }
-        ensures white { result.1 ≡ white self.now.colours (digits self.now.pegs self.now.colours code) (digits self.now.pegs self.now.colours guess) }
+    // How many pegs of the rows of two numbers can be paired by colour.
+    fn shared(&self, code: u32, guess: u32) -> u8
+        ensures { result ≡ shared self.now.colours (digits self.now.pegs self.now.colours code) (digits self.now.pegs self.now.colours guess) }
     {
-        let base = u32::from(self.colours);
-        let mut code_rest = code;
-        let mut guess_rest = guess;
-        let mut code_counts = [0u8; 10];
-        let mut guess_counts = [0u8; 10];
-        let mut black = 0u8;
-        for _done in 0..self.pegs {
-            let code_colour = (code_rest % base) as usize;
-            let guess_colour = (guess_rest % base) as usize;
-            black += u8::from(code_colour == guess_colour);
-            code_counts[code_colour] += 1;
-            guess_counts[guess_colour] += 1;
-            code_rest /= base;
-            guess_rest /= base;
-        }
-        let shared = paired(base, &code_counts, &guess_counts);
-        (black, (shared - u32::from(black)) as u8)
+        let left = self.counts(code);
+        let right = self.counts(guess);
+        left.iter()
+            .zip(right.iter())
+            .map(|(left, right)| *left.min(right))
+            .sum()
     }
 
     pub(crate) fn pegs(&self) -> u8
@@ -131,7 +126,8 @@ impl Board {
     pub(crate) fn pair(&self, code: u32, guess: u32) -> u8
         ensures { result ≡ peg_answer self.now.pegs self.now.colours code guess }
     {
-        let (black, white) = self.compare(code, guess);
+        let black = self.black(code, guess);
+        let white = self.shared(code, guess) - black;
         // The blacks below this one have p + 1, p, .. pairs. The last pair stands one lower, as one before it cannot come.
         let before = black * (2 * self.pegs + 3 - black) / 2 + white;
         if black == self.pegs {
@@ -140,16 +136,4 @@ impl Board {
             before
         }
     }
-}
-
-// How many pegs can be paired by colour, where the two arrays say how often each colour comes.
-fn paired(colours: u32, left: &[u8; 10], right: &[u8; 10]) -> u32
-    requires { colours ≤ 10 }
-    ensures { result ≡ total colours (λ k. min (slice_index left.now k) (slice_index right.now k)) }
-{
-    let mut sum = 0u32;
-    for colour in 0..colours as usize {
-        sum += u32::from(left[colour].min(right[colour]));
-    }
-    sum
 }

@@ -6,6 +6,7 @@ mod board;
 mod coins;
 mod interface;
 mod pegs;
+mod row;
 mod row_game;
 mod set;
 mod table;

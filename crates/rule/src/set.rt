@@ -3,6 +3,8 @@ ghost use Rattle.std.specs.Prelude.{◌≡◌, ◌*◌, ◌^◌, ◌<◌, ◌≤
 ghost use Rattle.rule.specs.Coins.{is_weighing, weighed, pan_digit, opposite};
 ghost use Rattle.rule.specs.Digits.{digits};
 
+use crate::row::Row;
+
 // Where a coin lies in a weighing, or which pan goes down.
 #[derive(Clone, Copy)]
 pub enum Pan {
@@ -76,13 +78,11 @@ impl Set {
         if number >= self.placings {
             return false;
         }
-        let mut rest = number;
         let mut left = 0u32;
         let mut right = 0u32;
-        for _done in 0..self.coins {
-            left += u32::from(rest % 3 == 1);
-            right += u32::from(rest % 3 == 2);
-            rest /= 3;
+        for digit in Row::of(number, 3, self.coins) {
+            left += u32::from(digit == 1);
+            right += u32::from(digit == 2);
         }
         left == right && left >= 1
     }
