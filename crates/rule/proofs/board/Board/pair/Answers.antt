@@ -35,9 +35,6 @@ overflow_add-before-2 c =
     let both = (known (goal.at.overflow_add-before-2 c).After-shared).both in
     search rules
 
-pub overflow_sub-result : goal.overflow_sub-result
-overflow_sub-result c = omega (arith, ((known (goal.at.overflow_sub-result c).After-shared).last c.if-black-self.true).0)
-
 pub returns-then-black-self : goal.returns-then-black-self
 returns-then-black-self c = omega (arith, ((known (goal.at.returns-then-black-self c).After-shared).last c.if-black-self.true).1)
 
