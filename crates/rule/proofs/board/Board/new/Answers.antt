@@ -1,5 +1,5 @@
 use Rattle.std.proofs.Common.{◌^◌, ◌≤◌, arith, lit<}
-use native.Mathlib.Nat.{pow-le-pow_left, pow-le-pow_right}
+use Rattle.std.proofs.Math.Nat.{pow-le-pow_left, pow-le-pow_right}
 use Rattle.rule.proofs.board.Board.new.Goals as goal
 
 pub pow-bound-requires : goal.pow-bound-requires
