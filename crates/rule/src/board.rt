@@ -1,9 +1,5 @@
 // Rows of coloured pegs, read from numbers and compared.
-ghost use Rattle.std.specs.Prelude.{◌≡◌, ℕ, ◌^◌, ◌<◌, ◌≤◌, true, false, length, MatchResult, slice_index};
-ghost use Rattle.fault.specs.declared.Check.TheVariants.{GameParameters};
-ghost use Rattle.fault.specs.Faults.{refusal};
-ghost use Rattle.rule.specs.Pegs.{board_fits, is_row, equal_places, shared, pairs, peg_answer};
-ghost use Rattle.rule.specs.Digits.{digits, last_digits, occurs, different};
+ghost use Rattle.std.specs.Prelude.{◌≡◌, ◌^◌, ◌<◌, ◌≤◌};
 
 use crate::row::Row;
 use fault::{Check, Fault, Place};
@@ -24,6 +20,13 @@ pub struct Board {
 }
 
 impl Board {
+    ghost use Rattle.std.specs.Prelude.{◌≡◌, ℕ, ◌^◌, ◌<◌, true, false, length, MatchResult, slice_index};
+    ghost use Rattle.fault.specs.declared.Check.TheVariants.{GameParameters};
+    ghost use Rattle.fault.specs.Faults.{refusal};
+    ghost use Rattle.rule.specs.Digits.{last_digits, occurs, different};
+    ghost use Rattle.rule.specs.Pegs.{board_fits, is_row, equal_places, shared, pairs, peg_answer};
+    ghost use Rattle.rule.specs.Rules.{row_on};
+
     pub(crate) fn new(pegs: u32, colours: u32, repeats: bool) -> Result<Board, Fault>
         ensures { MatchResult result
             (λ b. (board_fits pegs colours repeats ≡ true) × (b.pegs ≡ pegs) × (b.colours ≡ colours) × (b.repeats ≡ repeats))
@@ -44,8 +47,8 @@ impl Board {
         })
     }
 
-    #[tactic(auto, using(crate::proofs::Lasts::length_last))]
     // The colours of a number, from the last peg to the first.
+    #[tactic(auto, using(crate::proofs::Lasts::length_last))]
     fn row(&self, number: u32) -> Row
         ensures value { result ≡ last_digits self.now.pegs self.now.colours number }
         ensures few { length result < 7 }
@@ -56,7 +59,7 @@ impl Board {
     // How often each colour comes in the row of a number.
     fn counts(&self, number: u32) -> [u8; 10]
         ensures ten { length result ≡ 10 }
-        ensures each { (k : ℕ) → k < 10 → slice_index result k ≡ occurs k (digits self.now.pegs self.now.colours number) }
+        ensures each { (k : ℕ) → k < 10 → slice_index result k ≡ occurs k (row_on self.now number) }
     {
         let mut counts = [0u8; 10];
         for colour in self.row(number) {
@@ -67,7 +70,7 @@ impl Board {
 
     // Whether no colour comes twice in the row of a number.
     fn all_different(&self, number: u32) -> bool
-        ensures { result ≡ different (digits self.now.pegs self.now.colours number) }
+        ensures { result ≡ different (row_on self.now number) }
     {
         self.counts(number).iter().all(|count| *count <= 1)
     }
@@ -80,9 +83,8 @@ impl Board {
     }
 
     // At how many places the rows of two numbers agree.
-    #[tactic(auto, using(crate::proofs::Lasts::equal_last))]
     pub(crate) fn black(&self, code: u32, guess: u32) -> u8
-        ensures { result ≡ equal_places (digits self.now.pegs self.now.colours code) (digits self.now.pegs self.now.colours guess) }
+        ensures { result ≡ equal_places (row_on self.now code) (row_on self.now guess) }
     {
         self.row(code)
             .zip(self.row(guess))
@@ -92,7 +94,7 @@ impl Board {
 
     // How many pegs of the rows of two numbers can be paired by colour.
     fn shared(&self, code: u32, guess: u32) -> u8
-        ensures { result ≡ shared self.now.colours (digits self.now.pegs self.now.colours code) (digits self.now.pegs self.now.colours guess) }
+        ensures { result ≡ shared self.now.colours (row_on self.now code) (row_on self.now guess) }
     {
         let left = self.counts(code);
         let right = self.counts(guess);
