@@ -2,8 +2,7 @@
 use Rattle.std.proofs.Common.{◌≡◌, ℕ, zero, suc, ◌+◌, ◌<◌, ◌≤◌, List, slice_index_or, subst, sym, ap, ◌∙◌, ⊎_elim, arith}
 use Rattle.std.proofs.lemmas.Bool.{cases_eq}
 use Rattle.std.specs.Array.{IsFromFnResult, IsFromFnResultFrom}
-use Rattle.std.specs.Fn.{Called}
-use denote.Param.Members.{Mut}
+use Rattle.std.specs.Fn.{Called, Mut}
 
 module _ {F B : Type 0} (g : Mut F (ℕ × Unit {0}) B) (value : ℕ → B) (top : ℕ) (f : F) (xs : List B) (one : (i : ℕ) (x : B) (q : F) → i < top → Called g f (i, tt) x q → (q ≡ f) × (x ≡ value i)) where
   filled_from : (n i : ℕ) → i + n ≤ top → IsFromFnResultFrom g f xs i n → (k : ℕ) (d : B) → i ≤ k → k < i + n → slice_index_or xs k d ≡ value k
