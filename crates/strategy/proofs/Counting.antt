@@ -1,6 +1,6 @@
 -- No strategy finds more codes of a set within k guesses than there are places. Assumes nothing.
 use Rattle.std.proofs.Common.{◌≡◌, ℕ, zero, suc, ◌+◌, ◌-◌, ◌*◌, ◌<◌, ◌≤◌, Bool, true, false, cond, not, ◌&&◌, eqb, sym, refl, ◌∙◌, zero-le, le_trans, add-le-add, mul-pos, arith}
-use mathlib.Core.Option.{Option, none}
+use Rattle.std.proofs.Math.Option.{Option, none}
 use Rattle.std.proofs.lemmas.Bool.{eqb-true, eqb-false, ne_eqb, and_parts, and_from, and_left, and_right, not-true, true≢false, false≢true}
 use Rattle.rule.specs.Digits.{how_many}
 use Rattle.rule.specs.Meaning.{Meaning, Lawful, win}

@@ -1,8 +1,8 @@
 -- How a play goes on from a leaf, a guess and a branch. Assumes nothing.
 use Rattle.std.proofs.Common.{◌≡◌, ℕ, suc, Bool, true, false, cond, eqb, ◌⊎◌, sym, refl, ◌∙◌, inl, inr}
-use mathlib.Core.Bool.{beq}
-use mathlib.Core.Option.{Option, none, some}
-use lib.Dec.{leb-zero, leb-suc-zero, leb-suc-suc}
+use Rattle.std.specs.Bool.{beq}
+use Rattle.std.proofs.Math.Option.{Option, none, some}
+use Rattle.std.proofs.Math.Dec.{leb-zero, leb-suc-zero, leb-suc-suc}
 use Rattle.std.proofs.lemmas.Bool.{eqb-true, and_parts, false≢true}
 use Rattle.rule.specs.Meaning.{Meaning}
 use Rattle.strategy.specs.Strategy.{Strategy, Branches, leaf, no_more, branch, IsStrategy, AreBranches, wins, one_more, play, follow, within}

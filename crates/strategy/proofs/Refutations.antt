@@ -1,7 +1,7 @@
 -- A refutation is right of every strategy. Each kind of evidence has a lemma of its own, about sets that are out of reach.
 -- Assumes nothing.
 use Rattle.std.proofs.Common.{◌≡◌, ℕ, zero, suc, ◌+◌, ◌<◌, ◌≤◌, max, true, false, ◌&&◌, eqb, ◌⊎◌, sym, ◌∙◌, subst, inl, inr, not-suc-le-zero, arith}
-use mathlib.Core.Option.{none}
+use Rattle.std.proofs.Math.Option.{none}
 use Rattle.std.proofs.lemmas.Bool.{eqb-true, and_parts, and_from, le-leb, cases_lt, true≢false, false≢true}
 use Rattle.rule.specs.Meaning.{Meaning, Lawful}
 use Rattle.strategy.specs.Strategy.{Strategy, Branches, leaf, ask, IsStrategy, FindsEvery, wins, play, follow, within, cost, guesses, greatest, worst_case, Codes, all_codes, that_answer, found_within, places, size, Refutation, count, split}
