@@ -9,41 +9,31 @@ use rule::AnswerRule;
 pub fn count_codes<R: AnswerRule>(rule: &R) -> u32
     ensures { result ≡ codes_of (R.meaning rule.now) }
 {
-    let mut count = 0u32;
-    for number in 0..rule.code_bound() {
-        count += u32::from(rule.is_code(number));
-    }
-    count
+    (0..rule.code_bound())
+        .filter(|number| rule.is_code(*number))
+        .count() as u32
 }
 
 pub fn count_guesses<R: AnswerRule>(rule: &R) -> u32
     ensures { result ≡ guesses_of (R.meaning rule.now) }
 {
-    let mut count = 0u32;
-    for number in 0..rule.guess_bound() {
-        count += u32::from(rule.admits(number));
-    }
-    count
+    (0..rule.guess_bound())
+        .filter(|number| rule.admits(*number))
+        .count() as u32
 }
 
 // How many codes have an answer to a guess.
 pub fn count_that_answer<R: AnswerRule>(rule: &R, guess: u32, answer: u8) -> u32
     ensures { result ≡ that_answer (R.meaning rule.now) guess answer }
 {
-    let mut count = 0u32;
-    for number in 0..rule.code_bound() {
-        count += u32::from(rule.answer(number, guess) == answer);
-    }
-    count
+    (0..rule.code_bound())
+        .filter(|number| rule.answer(*number, guess) == answer)
+        .count() as u32
 }
 
 // How a guess divides the codes: at each answer's place, how many codes have it. No game has more answers than places here.
 pub fn divide<R: AnswerRule>(rule: &R, guess: u32) -> [u32; 64]
     ensures { (a : ℕ) → a < 64 → slice_index result a ≡ that_answer (R.meaning rule.now) guess a }
 {
-    let mut division = [0u32; 64];
-    for answer in 0..64usize {
-        division[answer] = count_that_answer(rule, guess, answer as u8);
-    }
-    division
+    std::array::from_fn(|answer| count_that_answer(rule, guess, answer as u8))
 }

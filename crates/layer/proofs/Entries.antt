@@ -1,98 +1,81 @@
 -- Where a hint goes among those that are there. Assumes nothing.
-use Rattle.std.proofs.Common.{◌≡◌, ℕ, zero, suc, ◌+◌, ◌<◌, ◌≤◌, max, false, ◌&&◌, eqb, List, [], ◌∷◌, ◌++◌, length, get_or, take, drop, set, sym, refl, ap, ◌∙◌, ⊎_elim, arith}
-use Rattle.std.proofs.lemmas.List.{length-take, get_or-take, get_or_default, at_drop_more, take_more_set}
-use Rattle.std.proofs.lemmas.Bool.{cases_Bool, cases_lt, cond-true, cond-false, eq-eqb, ne_eqb}
+use Rattle.std.proofs.Common.{◌≡◌, ℕ, zero, suc, ◌+◌, ◌-◌, ◌<◌, Bool, true, false, cond, not, ◌&&◌, ◌==◌, Option, None, Some, List, [], ◌∷◌, ◌++◌, map, replicate, length, slice_set, slice_get, drop, sym, refl, ap, ◌∙◌, arith, length-append, length-set}
+use Rattle.std.specs.List.{filter_map, position_or_len}
+use Rattle.std.proofs.lemmas.List.{at_drop_more, length-map, length-replicate}
+use Rattle.std.proofs.lemmas.Option.{slice_get_within, get_or_from_slice_get}
 use Rattle.rule.specs.Meaning.{Meaning}
 use Rattle.layer.specs.declared.hint.Hint.{Hint}
 use Rattle.layer.specs.Hints.{agrees, place_of, entered}
 
-pub place_le : (guess : ℕ) (hints : List Hint) → place_of guess hints ≤ length hints
-place_le guess [] = omega arith
-place_le guess (x ∷ xs) =
-    ⊎_elim
-    (λ e. omega (arith, cond-true (eqb x.guess guess) 0 (suc (place_of guess xs)) e))
-    (λ e. omega (arith, cond-false (eqb x.guess guess) 0 (suc (place_of guess xs)) e, place_le guess xs))
-    (cases_Bool (eqb x.guess guess))
+-- the places of a table: hints, and free places after them
+abbrev places : List Hint → ℕ → List (Option Hint)
+places hints free = map Some hints ++ replicate free None
 
--- a hint for a guess that is there takes its place
-pub entered_there : (hints : List Hint) (hint : Hint) (at : ℕ) → at ≡ place_of hint.guess hints → at < length hints → entered hints hint ≡ set hints at hint
-entered_there [] hint at e h = absurd (omega arith)
-entered_there (x ∷ xs) hint at e h =
-    ⊎_elim
-    (λ t.
-    cond-true (eqb x.guess hint.guess) (hint ∷ xs) (x ∷ entered xs hint) t
-    ∙ ap (λ z. set (x ∷ xs) z hint) (sym (e ∙ cond-true (eqb x.guess hint.guess) 0 (suc (place_of hint.guess xs)) t)))
-    (λ f.
-    let past : at ≡ suc (place_of hint.guess xs) = e ∙ cond-false (eqb x.guess hint.guess) 0 (suc (place_of hint.guess xs)) f in
-    cond-false (eqb x.guess hint.guess) (hint ∷ xs) (x ∷ entered xs hint) f
-    ∙ ap (λ l. x ∷ l) (entered_there xs hint (place_of hint.guess xs) refl (omega (arith, past)))
-    ∙ ap (λ z. set (x ∷ xs) z hint) (sym past))
-    (cases_Bool (eqb x.guess hint.guess))
+abbrev in_use : List (Option Hint) → List Hint
+in_use entries = filter_map (λ entry. entry) entries
 
--- any other comes last
-pub entered_last : (hints : List Hint) (hint : Hint) → place_of hint.guess hints ≡ length hints → entered hints hint ≡ hints ++ hint ∷ []
-entered_last [] hint e = refl
-entered_last (x ∷ xs) hint e =
-    ⊎_elim
-    (λ t. absurd (omega (arith, cond-true (eqb x.guess hint.guess) 0 (suc (place_of hint.guess xs)) t)))
-    (λ f.
-    cond-false (eqb x.guess hint.guess) (hint ∷ xs) (x ∷ entered xs hint) f
-    ∙ ap (λ l. x ∷ l) (entered_last xs hint (omega (arith, cond-false (eqb x.guess hint.guess) 0 (suc (place_of hint.guess xs)) f))))
-    (cases_Bool (eqb x.guess hint.guess))
+length-places : (hints : List Hint) (free : ℕ) → length (places hints free) ≡ length hints + free
+length-places hints free = simp (length-append, length-map, length-replicate) refl
 
-pub take_of_set : {A : Type 0} (n i : ℕ) (xs : List A) (a : A) → i < n → take n (set xs i a) ≡ set (take n xs) i a
-take_of_set zero i xs a h = absurd (omega arith)
-take_of_set (suc n) i [] a h = refl
-take_of_set (suc n) zero (x ∷ xs) a h = refl
-take_of_set (suc n) (suc i) (x ∷ xs) a h = ap (λ l. x ∷ l) (take_of_set n i xs a (omega arith))
+-- a place where a hint for a guess can stand
+abbrev pub takes : ℕ → Option Hint → Bool
+takes guess None = true
+takes guess (Some hint) = hint.guess == guess
 
--- what is read from the places is an entry in use
-pub read_entry : {A : Type 0} (items entries : List A) (used at : ℕ) (d : A) → items ≡ entries → at < length (take used entries) → get_or items at d ≡ get_or (take used entries) at (get_or items at d)
-read_entry items entries used at d e h =
-    let long = length-take used entries in
-    ap (λ l. get_or l at d) e
-    ∙ get_or_default entries at d (get_or items at d) (omega (arith, long))
-    ∙ sym (get_or-take used entries at (get_or items at d) (omega (arith, long)))
+pub first_place : (guess : ℕ) (hints : List Hint) (free : ℕ) → position_or_len (takes guess) (places hints free) ≡ place_of guess hints
+first_place guess [] zero = refl
+first_place guess [] (suc free) = refl
+first_place guess (x ∷ xs) free =
+    let rest = first_place guess xs free in
+    elim (x.guess == guess) as (λ t. cond (not t) (1 + position_or_len (takes guess) (places xs free)) 0 ≡ cond t 0 (suc (place_of guess xs))) [ true ↦ refl | false ↦ omega arith ]
 
--- the search for a guess, at one entry
-pub place_here : (guess : ℕ) (hints : List Hint) (at : ℕ) (x : Hint) → at < length hints → x ≡ get_or hints at x → x.guess ≡ guess → place_of guess (drop at hints) ≡ 0
-place_here guess hints at x h read same =
-    at_drop_more (place_of guess) hints at x h
-    ∙ cond-true (eqb (get_or hints at x).guess guess) 0 (suc (place_of guess (drop (at + 1) hints))) (eq-eqb _ _ (ap (λ y. y.guess) (sym read) ∙ same))
+used : (hints : List Hint) (free : ℕ) → in_use (places hints free) ≡ hints
+used [] zero = refl
+used [] (suc free) = used [] free
+used (x ∷ xs) free = ap (λ l. x ∷ l) (used xs free)
 
-pub place_past : (guess : ℕ) (hints : List Hint) (at : ℕ) (x : Hint) → at < length hints → x ≡ get_or hints at x → (x.guess ≡ guess → ⊥) → place_of guess (drop at hints) ≡ suc (place_of guess (drop (at + 1) hints))
-place_past guess hints at x h read other =
-    at_drop_more (place_of guess) hints at x h
-    ∙ cond-false (eqb (get_or hints at x).guess guess) 0 (suc (place_of guess (drop (at + 1) hints))) (ne_eqb _ _ (λ e. other (ap (λ y. y.guess) read ∙ e)))
+-- a hint takes the place of the one for the same guess, or the first that is free
+written : (hints : List Hint) (free : ℕ) (hint : Hint) → place_of hint.guess hints < length (places hints free) → (left : ℕ) × (slice_set (places hints free) (place_of hint.guess hints) (Some hint) ≡ places (entered hints hint) left)
+written [] zero hint room = absurd (omega arith)
+written [] (suc free) hint room = (free, refl)
+written (x ∷ xs) free hint room =
+    elim (x.guess == hint.guess)
+    as (λ t. cond t 0 (suc (place_of hint.guess xs)) < length (places (x ∷ xs) free) → (left : ℕ) × (slice_set (places (x ∷ xs) free) (cond t 0 (suc (place_of hint.guess xs))) (Some hint) ≡ places (cond t (hint ∷ xs) (x ∷ entered xs hint)) left)) [
+      | true ↦ λ _. (free, refl)
+      | false ↦ λ more.
+          let rest = written xs free hint (omega arith) in
+          (rest.0, ap (λ l. Some x ∷ l) rest.1)
+    ]
+    room
 
 -- the table once a hint is written at its place
-pub entered_at : (entries : List Hint) (used at : ℕ) (hint : Hint) → at < length entries → at ≡ place_of hint.guess (take used entries) → take (max used (at + 1)) (set entries at hint) ≡ entered (take used entries) hint
-entered_at entries used at hint room e =
-    let long = length-take used entries in
-    let le = place_le hint.guess (take used entries) in
-    ⊎_elim
-    (λ there.
-    ap (λ n. take n (set entries at hint)) (let same : max used (at + 1) ≡ used = omega arith in same)
-    ∙ take_of_set used at entries hint there
-    ∙ sym (entered_there (take used entries) hint at e (omega (arith, long))))
-    (λ past.
-    let end : at ≡ used = omega (arith, long, le, e) in
-    ap (λ n. take n (set entries at hint)) (let same : max used (at + 1) ≡ at + 1 = omega arith in same)
-    ∙ take_more_set entries at hint room
-    ∙ ap (λ n. take n entries ++ hint ∷ []) end
-    ∙ sym (entered_last (take used entries) hint (omega (arith, long, e))))
-    (cases_lt at used)
+module _ (entries : List (Option Hint)) (hints : List Hint) (at : ℕ) (hint : Hint) (packed : entries ≡ places (in_use entries) (8 - length (in_use entries))) (same : in_use entries ≡ hints) (here : at ≡ place_of hint.guess hints) (room : at < length entries) where
+  table : entries ≡ places hints (8 - length hints)
+  table = packed ∙ ap (λ l. places l (8 - length l)) same
 
--- whether a code agrees with the hints from one on, by its answer to that one
-agrees_step : (below : Meaning) (code : ℕ) (hints : List Hint) (at : ℕ) (x : Hint) → at < length hints → x ≡ get_or hints at x → agrees below code (drop at hints) ≡ (eqb (below.answer code x.guess) x.answer && agrees below code (drop (at + 1) hints))
-agrees_step below code hints at x h read =
-    at_drop_more (agrees below code) hints at x h
-    ∙ ap (λ y. eqb (below.answer code y.guess) y.answer && agrees below code (drop (at + 1) hints)) (sym read)
+  placed : (left : ℕ) × (slice_set entries at (Some hint) ≡ places (entered hints hint) left)
+  placed =
+      let rest = written hints (8 - length hints) hint (omega (arith, ap length table)) in
+      (rest.0, ap (λ l. slice_set l at (Some hint)) table ∙ ap (λ k. slice_set (places hints (8 - length hints)) k (Some hint)) here ∙ rest.1)
 
-pub agrees_here : (below : Meaning) (code : ℕ) (hints : List Hint) (at : ℕ) (x : Hint) → at < length hints → x ≡ get_or hints at x → below.answer code x.guess ≡ x.answer → agrees below code (drop at hints) ≡ agrees below code (drop (at + 1) hints)
-agrees_here below code hints at x h read same =
-    agrees_step below code hints at x h read ∙ ap (λ t. t && agrees below code (drop (at + 1) hints)) (eq-eqb _ _ same)
+  pub entered_at : in_use (slice_set entries at (Some hint)) ≡ entered hints hint
+  entered_at = ap in_use placed.1 ∙ used (entered hints hint) placed.0
 
-pub agrees_past : (below : Meaning) (code : ℕ) (hints : List Hint) (at : ℕ) (x : Hint) → at < length hints → x ≡ get_or hints at x → (below.answer code x.guess ≡ x.answer → ⊥) → agrees below code (drop at hints) ≡ false
-agrees_past below code hints at x h read other =
-    agrees_step below code hints at x h read ∙ ap (λ t. t && agrees below code (drop (at + 1) hints)) (ne_eqb _ _ other)
+  left_over : length entries ≡ 8 → placed.0 ≡ 8 - length (entered hints hint)
+  left_over long = omega (arith, ap length placed.1, length-set entries at (Some hint), length-places (entered hints hint) placed.0)
+
+  pub still_packed : length entries ≡ 8 → slice_set entries at (Some hint) ≡ places (in_use (slice_set entries at (Some hint))) (8 - length (in_use (slice_set entries at (Some hint))))
+  still_packed long = placed.1 ∙ ap (places (entered hints hint)) (left_over long) ∙ ap (λ l. places l (8 - length l)) (sym entered_at)
+
+-- whether a code agrees with the hints from one on
+module _ (below : Meaning) (code : ℕ) where
+  pub agrees_at : (hints : List Hint) (at : ℕ) (hint : Hint) → slice_get hints at ≡ Some hint → agrees below code (drop at hints) ≡ (below.answer code hint.guess == hint.answer && agrees below code (drop (at + 1) hints))
+  agrees_at hints at hint e =
+      at_drop_more (agrees below code) hints at hint (slice_get_within hints at hint e)
+      ∙ ap (λ h. agrees below code (h ∷ drop (at + 1) hints)) (get_or_from_slice_get hints at hint hint e)
+
+  pub agrees_past : (hints : List Hint) (at : ℕ) → slice_get hints at ≡ None → agrees below code (drop at hints) ≡ true
+  agrees_past [] zero e = refl
+  agrees_past [] (suc at) e = refl
+  agrees_past (x ∷ xs) zero e = cc
+  agrees_past (x ∷ xs) (suc at) e = agrees_past xs at e

@@ -53,7 +53,7 @@ impl<R: AnswerRule> Blur<R> {
         ensures { result ≡ sent (R.meaning self.now.below) self.now.sends (nearest 2 64 self.now.answers) answer }
     {
         let naming = self.below.is_naming();
-        let last = self.answers.max(2).min(64) - 1;
+        let last = self.answers() - 1;
         if naming && answer == self.below.answers() - 1 {
             return last;
         }
@@ -72,9 +72,7 @@ fn padded(bytes: &[u8]) -> [u8; 64]
     ensures { (a : ℕ) → slice_index result a ≡ slice_index bytes.now a }
 {
     let mut sends = [0u8; 64];
-    for (at, byte) in bytes.iter().enumerate() {
-        sends[at] = *byte;
-    }
+    sends[..bytes.len()].copy_from_slice(bytes);
     sends
 }
 
@@ -82,8 +80,7 @@ fn padded(bytes: &[u8]) -> [u8; 64]
 fn fits<R: AnswerRule>(below: &R, bytes: &[u8], answers: u8) -> bool
     ensures { result ≡ blur_fits (R.meaning below.now) bytes.now answers }
 {
-    answers >= 2
-        && answers <= 64
+    (2..=64).contains(&answers)
         && bytes.len() == below.answers() as usize
         && all_answers(bytes, answers)
         && (!below.is_naming() || wins_alone(bytes, answers - 1))
@@ -93,12 +90,10 @@ fn fits<R: AnswerRule>(below: &R, bytes: &[u8], answers: u8) -> bool
 fn wins_alone(bytes: &[u8], win: u8) -> bool
     ensures { result ≡ all_below (length bytes.now) (λ a. beq (slice_index bytes.now a == win) (a == length bytes.now - 1)) }
 {
-    for (at, byte) in bytes.iter().enumerate() {
-        if (*byte == win) != (at == bytes.len() - 1) {
-            return false;
-        }
+    match bytes {
+        [others @ .., last] => *last == win && !others.contains(&win),
+        [] => true,
     }
-    true
 }
 
 impl<R: AnswerRule> AnswerRule for Blur<R> {
@@ -123,7 +118,7 @@ impl<R: AnswerRule> AnswerRule for Blur<R> {
     }
 
     fn answers(&self) -> u8 {
-        self.answers.max(2).min(64)
+        self.answers.clamp(2, 64)
     }
 
     fn is_naming(&self) -> bool {
@@ -135,7 +130,7 @@ impl<R: AnswerRule> AnswerRule for Blur<R> {
         if answer < self.below.answers() {
             self.send(answer)
         } else {
-            self.answers.max(2).min(64)
+            self.answers()
         }
     }
 }

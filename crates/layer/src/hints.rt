@@ -1,11 +1,10 @@
 // The hints layer: of the codes of the rule below, those that would have given each hint's answer.
 ghost use Rattle.std.specs.Prelude.{◌≡◌, ◌&&◌, []};
 ghost use Rattle.layer.specs.Hints.{agrees, hinted, hint_result, hints_after};
-ghost use Rattle.layer.specs.Notes.{listed};
 ghost use Rattle.layer.specs.Laws.HintLaws.{hinted_lawful};
 
 use crate::hint::Hint;
-use crate::notes::Notes;
+use crate::notes::{Notes, PLACES};
 use fault::{Check, Fault, Place};
 use rule::AnswerRule;
 
@@ -19,7 +18,7 @@ impl<R: AnswerRule> Hints<R> {
     // The rule below, with no hints yet.
     pub fn new(below: R) -> Hints<R>
         ensures below { result.below ≡ below }
-        ensures hints { listed result.notes ≡ [] }
+        ensures hints { result.notes ≡ [] }
     {
         Hints {
             below,
@@ -29,26 +28,24 @@ impl<R: AnswerRule> Hints<R> {
 
     // Enters what a player was told: the answer to a guess. For a guess that has a hint already, the answer replaces the old one.
     pub fn hint(&mut self, guess: u32, answer: u8) -> Result<(), Fault>
-        ensures value { result ≡ hint_result (R.meaning self.old.below) (listed self.old.notes) (record { guess = guess; answer = answer }) }
-        ensures hints { listed self.new.notes ≡ hints_after (R.meaning self.old.below) (listed self.old.notes) (record { guess = guess; answer = answer }) }
+        ensures value { result ≡ hint_result (R.meaning self.old.below) self.old.notes (record { guess = guess; answer = answer }) }
+        ensures hints { self.new.notes ≡ hints_after (R.meaning self.old.below) self.old.notes (record { guess = guess; answer = answer }) }
         ensures below { self.new.below ≡ self.old.below }
     {
         if !self.below.admits(guess) || answer >= self.below.answers() {
             return Err(Check::HintPair.at(Place::Nowhere));
         }
-        if self.notes.enter(Hint { guess, answer }) {
-            Ok(())
-        } else {
-            Err(Check::NinthHint.at(Place::Nowhere))
-        }
+        self.notes.enter(Hint { guess, answer })
     }
 
     // Whether a number agrees with each hint in turn, as the rule below answers.
     fn agrees(&self, code: u32) -> bool
-        ensures { result ≡ agrees (R.meaning self.now.below) code (listed self.now.notes) }
+        ensures { result ≡ agrees (R.meaning self.now.below) code self.now.notes }
     {
-        for at in 0..self.notes.len() {
-            let hint = self.notes.entry(at);
+        for at in 0..PLACES {
+            let Some(hint) = self.notes.entry(at) else {
+                return true;
+            };
             if self.below.answer(code, hint.guess) != hint.answer {
                 return false;
             }
@@ -58,9 +55,9 @@ impl<R: AnswerRule> Hints<R> {
 }
 
 impl<R: AnswerRule> AnswerRule for Hints<R> {
-    ghost meaning = { λ layer. hinted (R.meaning layer.below) (listed layer.notes) };
+    ghost meaning = { λ layer. hinted (R.meaning layer.below) layer.notes };
 
-    ghost lawful = { λ layer. hinted_lawful (R.meaning layer.below) (R.lawful layer.below) (listed layer.notes) };
+    ghost lawful = { λ layer. hinted_lawful (R.meaning layer.below) (R.lawful layer.below) layer.notes };
 
     fn code_bound(&self) -> u32 {
         self.below.code_bound()

@@ -1,75 +1,71 @@
 // The table of hints: up to eight, one for each guess.
-ghost use Rattle.std.specs.Prelude.{◌≡◌, ◌<◌, ◌≤◌, false, [], length, if◌then◌else◌, slice_index_or};
+ghost use Rattle.std.specs.Prelude.{◌≡◌, ◌≤◌, [], length, if◌then◌else◌, Ok, Err, Some, None, nat_lt, slice_get};
+ghost use Rattle.fault.specs.Faults.{refusal};
+ghost use Rattle.fault.specs.declared.Check.TheVariants.{NinthHint};
 ghost use Rattle.layer.specs.Hints.{entered, place_of, has_room};
-ghost use Rattle.layer.specs.Notes.{listed};
 
 use crate::hint::Hint;
+use fault::{Check, Fault, Place};
+use std::marker::Model;
 
-#[derive(Clone, Copy)]
+// How many guesses can have a hint.
+pub(crate) const PLACES: usize = 8;
+
+// The entries in use come first.
+#[derive(Drop)]
 pub struct Notes {
-    entries: [Hint; 8],
-    used: usize,
+    entries: [Option<Hint>; PLACES],
+}
+
+// Clauses see the hints, in the order in which their guesses came.
+impl Model for Notes {
+    ghost use Rattle.std.specs.Prelude.{List};
+    ghost use Rattle.layer.specs.declared.hint.Hint.{Hint};
+
+    ghost Value = { List Hint };
+
+    ghost use Rattle.layer.specs.Notes.{listed, Packed};
+
+    ghost view = { listed };
+
+    ghost invariant = { Packed };
 }
 
 impl Notes {
     pub(crate) fn new() -> Notes
-        ensures { listed result ≡ [] }
+        ensures { result ≡ [] }
     {
         Notes {
-            entries: [Hint {
-                guess: 0,
-                answer: 0,
-            }; 8],
-            used: 0,
+            entries: [None; PLACES],
         }
     }
 
-    // The places for entries, those in use first.
-    fn places(&self) -> &[Hint]
-        ensures value { result.now ≡ self.now.entries }
-        ensures len { length result.now ≡ 8 }
+    // The entry at a place, where one is in use.
+    pub(crate) fn entry(&self, at: usize) -> Option<Hint>
+        ensures value { result ≡ slice_get self.now at }
+        ensures few { length self.now ≤ 8 }
     {
-        &self.entries
+        *self.entries.get(at)?
     }
 
-    pub(crate) fn len(&self) -> usize
-        ensures value { result ≡ length (listed self.now) }
-        ensures bound { result ≤ 8 }
+    // Where the entry for a guess stands, or else the first place that is free.
+    fn find(&self, guess: u32) -> Option<usize>
+        ensures { result ≡ (if nat_lt (place_of guess self.now) 8 then Some (place_of guess self.now) else None) }
     {
-        self.used.min(self.places().len())
+        self.entries
+            .iter()
+            .position(|entry| entry.is_none_or(|hint| hint.guess == guess))
     }
 
-    pub(crate) fn entry(&self, at: usize) -> Hint
-        requires { at < length (listed self.now) }
-        ensures { result ≡ slice_index_or (listed self.now) at result }
+    // Replaces the entry for the same guess, or adds one where there is room.
+    pub(crate) fn enter(&mut self, hint: Hint) -> Result<(), Fault>
+        ensures told { result ≡ (if has_room self.old hint then Ok tt else Err (refusal NinthHint)) }
+        ensures after { self.new ≡ (if has_room self.old hint then entered self.old hint else self.old) }
     {
-        self.places()[at]
-    }
-
-    // How many entries stand before the one for a guess: all of them when there is none.
-    fn find(&self, guess: u32) -> usize
-        ensures { result ≡ place_of guess (listed self.now) }
-    {
-        for at in 0..self.len() {
-            if self.entry(at).guess == guess {
-                return at;
-            }
-        }
-        self.len()
-    }
-
-    // Replaces the entry for the same guess, or adds one where there is room; says whether it did.
-    pub(crate) fn enter(&mut self, hint: Hint) -> bool
-        ensures told { result ≡ has_room (listed self.old) hint }
-        ensures after { listed self.new ≡ (if result then entered (listed self.old) hint else listed self.old) }
-        ensures same { result ≡ false → self.new ≡ self.old }
-    {
-        let at = self.find(hint.guess);
-        if at >= self.places().len() {
-            return false;
-        }
-        self.entries[at] = hint;
-        self.used = self.used.max(at + 1);
-        true
+        let at = self
+            .find(hint.guess)
+            .ok_or(Check::NinthHint.at(Place::Nowhere))?;
+        self.entries[at] = Some(hint);
+        Ok(())
     }
 }

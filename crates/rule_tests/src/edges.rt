@@ -3,48 +3,45 @@ use fault::Fault;
 use rule::{AnswerRule, Blacks, Coins, Pegs, Table};
 use std::test::Fail;
 
-// The number of a refusal, or 0 where nothing was refused.
-fn refused<T: Drop>(made: Result<T, Fault>) -> u32 {
-    match made {
-        Ok(_) => 0,
-        Err(fault) => fault.number,
-    }
+// The number of a refusal.
+pub(crate) fn refusal<T: Drop>(made: Result<T, Fault>) -> Option<u32> {
+    made.err().map(|fault| fault.number)
 }
 
 #[test]
 fn peg_parameters(rt: HostRuntime) {
     let asked = [
-        (0, 6, true, 17),
-        (1, 1, true, 17),
-        (1, 2, true, 0),
-        (4, 6, true, 0),
-        (6, 5, true, 0),
-        (6, 6, true, 17),
-        (7, 2, true, 17),
-        (4, 11, false, 17),
-        (4, 10, false, 0),
-        (5, 10, false, 17),
-        (5, 4, false, 17),
-        (5, 5, false, 0),
-        (4294967295, 4294967295, true, 17),
+        (0, 6, true, Some(17)),
+        (1, 1, true, Some(17)),
+        (1, 2, true, None),
+        (4, 6, true, None),
+        (6, 5, true, None),
+        (6, 6, true, Some(17)),
+        (7, 2, true, Some(17)),
+        (4, 11, false, Some(17)),
+        (4, 10, false, None),
+        (5, 10, false, Some(17)),
+        (5, 4, false, Some(17)),
+        (5, 5, false, None),
+        (4294967295, 4294967295, true, Some(17)),
     ];
     for (pegs, colours, repeats, number) in asked {
-        assert_eq!(rt; refused(Pegs::new(pegs, colours, repeats)), number);
-        assert_eq!(rt; refused(Blacks::new(pegs, colours, repeats)), number);
+        assert_eq!(rt; refusal(Pegs::new(pegs, colours, repeats)), number);
+        assert_eq!(rt; refusal(Blacks::new(pegs, colours, repeats)), number);
     }
 }
 
 #[test]
 fn coin_parameters(rt: HostRuntime) {
     for (coins, number) in [
-        (0, 17),
-        (1, 17),
-        (2, 0),
-        (12, 0),
-        (13, 17),
-        (4294967295, 17),
+        (0, Some(17)),
+        (1, Some(17)),
+        (2, None),
+        (12, None),
+        (13, Some(17)),
+        (4294967295, Some(17)),
     ] {
-        assert_eq!(rt; refused(Coins::new(coins)), number);
+        assert_eq!(rt; refusal(Coins::new(coins)), number);
     }
 }
 
@@ -52,30 +49,30 @@ fn coin_parameters(rt: HostRuntime) {
 fn table_shapes(rt: HostRuntime) {
     let bytes = [0, 1, 2, 2, 1, 0];
     let asked = [
-        (2, 3, 3, 0),
-        (3, 2, 3, 0),
-        (1, 6, 3, 0),
-        (6, 1, 3, 18),
-        (2, 3, 2, 18),
-        (2, 2, 3, 18),
-        (0, 6, 3, 18),
-        (2, 3, 1, 18),
-        (2, 3, 64, 0),
-        (2, 3, 65, 18),
-        (4294967295, 4294967295, 3, 18),
+        (2, 3, 3, None),
+        (3, 2, 3, None),
+        (1, 6, 3, None),
+        (6, 1, 3, Some(18)),
+        (2, 3, 2, Some(18)),
+        (2, 2, 3, Some(18)),
+        (0, 6, 3, Some(18)),
+        (2, 3, 1, Some(18)),
+        (2, 3, 64, None),
+        (2, 3, 65, Some(18)),
+        (4294967295, 4294967295, 3, Some(18)),
     ];
     for (rows, codes, answers, number) in asked {
-        assert_eq!(rt; refused(Table::new(&bytes, rows, codes, answers)), number);
+        assert_eq!(rt; refusal(Table::new(&bytes, rows, codes, answers)), number);
     }
-    assert_eq!(rt; refused(Table::new(&[], 0, 0, 2)), 18);
+    assert_eq!(rt; refusal(Table::new(&[], 0, 0, 2)), Some(18));
 }
 
 #[test]
 fn largest_table(rt: HostRuntime) -> Result<(), Fail> {
     let bytes = vec![in rt.alloc(); 1u8; 65536]?;
-    assert_eq!(rt; refused(Table::new(&bytes, 4, 16384, 2)), 0);
-    assert_eq!(rt; refused(Table::new(&bytes, 4096, 16, 2)), 0);
-    assert_eq!(rt; refused(Table::new(&bytes, 8192, 8, 2)), 18);
+    assert_eq!(rt; refusal(Table::new(&bytes, 4, 16384, 2)), None);
+    assert_eq!(rt; refusal(Table::new(&bytes, 4096, 16, 2)), None);
+    assert_eq!(rt; refusal(Table::new(&bytes, 8192, 8, 2)), Some(18));
     Ok(())
 }
 

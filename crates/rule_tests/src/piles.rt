@@ -1,28 +1,22 @@
 // Layers over rules and over each other.
-use layer::{Blur, Hints, Returned};
+use crate::edges::refusal;
+use counts::count_codes;
+use layer::{Blur, Hints};
 use rule::{AnswerRule, Coins, Pegs, Table};
 use std::test::Fail;
-
-fn codes<R: AnswerRule>(rule: &R) -> u32 {
-    let mut count = 0u32;
-    for number in 0..rule.code_bound() {
-        count = count.wrapping_add(u32::from(rule.is_code(number)));
-    }
-    count
-}
 
 // Two colours, two pegs: AB answered to the guess AA leaves AB and BA; then AB to the guess AB leaves one.
 #[test]
 fn hints_narrow(rt: HostRuntime) -> Result<(), Fail> {
     let mut game = Hints::new(Pegs::new(2, 2, true)?);
-    assert_eq!(rt; codes(&game), 4);
+    assert_eq!(rt; count_codes(&game), 4);
     // one black, no white
     game.hint(0, 3)?;
-    assert_eq!(rt; codes(&game), 2);
+    assert_eq!(rt; count_codes(&game), 2);
     assert!(rt; game.is_code(1) && game.is_code(2) && !game.is_code(0) && !game.is_code(3));
     // the win
     game.hint(1, 4)?;
-    assert_eq!(rt; codes(&game), 1);
+    assert_eq!(rt; count_codes(&game), 1);
     // the same guess again, answered otherwise: no black, two white
     game.hint(1, 2)?;
     assert!(rt; game.is_code(2) && !game.is_code(1));
@@ -32,31 +26,21 @@ fn hints_narrow(rt: HostRuntime) -> Result<(), Fail> {
 #[test]
 fn hints_are_refused(rt: HostRuntime) -> Result<(), Fail> {
     let mut game = Hints::new(Pegs::new(4, 6, true)?);
-    assert_eq!(rt; refusal(game.hint(1296, 0)), 20);
-    assert_eq!(rt; refusal(game.hint(0, 14)), 20);
+    assert_eq!(rt; refusal(game.hint(1296, 0)), Some(20));
+    assert_eq!(rt; refusal(game.hint(0, 14)), Some(20));
     for guess in 0..8 {
         game.hint(guess, 0)?;
     }
-    assert_eq!(rt; refusal(game.hint(1296, 0)), 20);
-    assert_eq!(rt; refusal(game.hint(8, 0)), 32);
+    assert_eq!(rt; refusal(game.hint(1296, 0)), Some(20));
+    assert_eq!(rt; refusal(game.hint(8, 0)), Some(32));
     // a guess that is there is replaced, full or not
-    assert_eq!(rt; refusal(game.hint(7, 1)), 0);
+    assert_eq!(rt; refusal(game.hint(7, 1)), None);
     Ok(())
 }
 
-fn refusal(entered: Result<(), fault::Fault>) -> u32 {
-    match entered {
-        Ok(()) => 0,
-        Err(fault) => fault.number,
-    }
-}
-
-// What a blur refuses with, or 0; the rule comes back and is let go here.
-fn blurred<R: AnswerRule + Drop>(below: R, bytes: &[u8], answers: u8) -> u32 {
-    match Blur::new(below, bytes, answers) {
-        Ok(_) => 0,
-        Err(back) => back.fault.number,
-    }
+// What a blur refuses with; the rule comes back and is let go here.
+fn blurred<R: AnswerRule + Drop>(below: R, bytes: &[u8], answers: u8) -> Option<u32> {
+    refusal(Blur::new(below, bytes, answers).map_err(|back| back.fault))
 }
 
 #[test]
@@ -64,17 +48,17 @@ fn blurs_are_refused(rt: HostRuntime) -> Result<(), Fail> {
     let game = Pegs::new(1, 2, true)?;
     let coins = Coins::new(3)?;
     let win_first = [1, 0];
-    assert_eq!(rt; blurred(game, &[0, 1], 2), 0);
-    assert_eq!(rt; blurred(game, &win_first, 2), 19);
-    assert_eq!(rt; blurred(game, &[1, 1], 2), 19);
-    assert_eq!(rt; blurred(game, &[0, 0], 2), 19);
-    assert_eq!(rt; blurred(game, &[0, 1], 3), 19);
-    assert_eq!(rt; blurred(game, &[0, 2], 3), 0);
-    assert_eq!(rt; blurred(coins, &win_first, 2), 19);
-    assert_eq!(rt; blurred(coins, &[1, 0, 1], 2), 0);
-    assert_eq!(rt; blurred(coins, &[1, 0, 2], 2), 19);
-    assert_eq!(rt; blurred(coins, &[0, 0, 0], 1), 19);
-    assert_eq!(rt; blurred(coins, &[0, 0, 0], 65), 19);
+    assert_eq!(rt; blurred(game, &[0, 1], 2), None);
+    assert_eq!(rt; blurred(game, &win_first, 2), Some(19));
+    assert_eq!(rt; blurred(game, &[1, 1], 2), Some(19));
+    assert_eq!(rt; blurred(game, &[0, 0], 2), Some(19));
+    assert_eq!(rt; blurred(game, &[0, 1], 3), Some(19));
+    assert_eq!(rt; blurred(game, &[0, 2], 3), None);
+    assert_eq!(rt; blurred(coins, &win_first, 2), Some(19));
+    assert_eq!(rt; blurred(coins, &[1, 0, 1], 2), None);
+    assert_eq!(rt; blurred(coins, &[1, 0, 2], 2), Some(19));
+    assert_eq!(rt; blurred(coins, &[0, 0, 0], 1), Some(19));
+    assert_eq!(rt; blurred(coins, &[0, 0, 0], 65), Some(19));
     Ok(())
 }
 
@@ -98,7 +82,7 @@ fn blur_over_hints_over_table(rt: HostRuntime) -> Result<(), Fail> {
     let bytes = [0, 1, 2, 0, 1, 2, 2, 1];
     let mut table = Hints::new(Table::new(&bytes, 2, 4, 3)?);
     table.hint(0, 0)?;
-    assert_eq!(rt; codes(&table), 2);
+    assert_eq!(rt; count_codes(&table), 2);
     let Ok(game) = Blur::new(table, &[1, 0, 0], 2) else {
         return Err(Fail::new("refused"));
     };
@@ -122,7 +106,7 @@ fn hints_over_blur_over_blur(rt: HostRuntime) -> Result<(), Fail> {
     assert!(rt; game.is_naming());
     game.hint(1, 0)?;
     // only the code 1 itself would have won
-    assert_eq!(rt; codes(&game), 3);
+    assert_eq!(rt; count_codes(&game), 3);
     assert_eq!(rt; game.answer(2, 2), 1);
     assert_eq!(rt; game.answer(2, 1), 0);
     Ok(())

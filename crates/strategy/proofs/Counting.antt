@@ -1,6 +1,6 @@
 -- No strategy finds more codes of a set within k guesses than there are places. Assumes nothing.
-use Rattle.std.proofs.Common.{◌≡◌, ℕ, zero, suc, ◌+◌, ◌-◌, ◌*◌, ◌<◌, ◌≤◌, Bool, true, false, cond, not, ◌&&◌, eqb, sym, refl, ◌∙◌, zero-le, le_trans, add-le-add, mul-pos, arith}
-use mathlib.Core.Option.{Option, none}
+use Rattle.std.proofs.Common.{◌≡◌, ℕ, zero, suc, ◌+◌, ◌-◌, ◌*◌, ◌<◌, ◌≤◌, Bool, true, false, cond, not, ◌&&◌, ◌==◌, sym, refl, ◌∙◌, zero-le, le_trans, add-le-add, mul-pos, arith}
+use Rattle.std.proofs.Math.Option.{Option, none}
 use Rattle.std.proofs.lemmas.Bool.{eqb-true, eqb-false, ne_eqb, and_parts, and_from, and_left, and_right, not-true, true≢false, false≢true}
 use Rattle.rule.specs.Digits.{how_many}
 use Rattle.rule.specs.Meaning.{Meaning, Lawful, win}
@@ -58,42 +58,42 @@ module _ (m : Meaning) (lawful : Lawful m) where
     unfolding found
     answer_below c e = lawful.answer_below c g ((ends S (suc k) asked c e).0, admitted)
 
-    class : (a c : ℕ) → (found c && eqb (m.answer c g) a) ≡ true → (m.is_code c && (S c && within k (next c a))) ≡ true
+    class : (a c : ℕ) → (found c && m.answer c g == a) ≡ true → (m.is_code c && (S c && within k (next c a))) ≡ true
     unfolding found asked
     class a c e =
-        let two = and_parts (found c) (eqb (m.answer c g) a) e in
+        let two = and_parts (found c) (m.answer c g == a) e in
         let parts = ends S (suc k) asked c two.0 in
         let same : m.answer c g ≡ a = eqb-true (m.answer c g) a two.1 in
         let later : within k (next c a) ≡ true = rw same at (one_fewer k (next c (m.answer c g)) parts.2) in
         and_from (m.is_code c) (S c && within k (next c a)) parts.0 (and_from (S c) (within k (next c a)) parts.1 later)
 
-    class_bound : (a : ℕ) → wins m a ≡ false → how_many m.code_bound (λ c. found c && eqb (m.answer c g) a) ≤ places m.naming m.answers k
+    class_bound : (a : ℕ) → wins m a ≡ false → how_many m.code_bound (λ c. found c && m.answer c g == a) ≤ places m.naming m.answers k
     class_bound a e = le_trans (count_part m.code_bound _ _ (class a)) (kept a e S)
 
     -- in a naming game only the guess itself answers by the win
-    won : m.naming ≡ true → how_many m.code_bound (λ c. found c && eqb (m.answer c g) (win m)) ≤ 1
+    won : m.naming ≡ true → how_many m.code_bound (λ c. found c && m.answer c g == win m) ≤ 1
     unfolding found
     won e =
         count_one m.code_bound g _
-        (λ c f. let two = and_parts (found c) (eqb (m.answer c g) (win m)) f in
+        (λ c f. let two = and_parts (found c) (m.answer c g == win m) f in
         lawful.win_names e c g ((ends S (suc k) asked c two.0).0, admitted) (eqb-true (m.answer c g) (win m) two.1))
 
     lost : ℕ → Bool
-    lost c = found c && not (eqb (m.answer c g) (win m))
+    lost c = found c && not (m.answer c g == win m)
 
     lost_below : (c : ℕ) → lost c ≡ true → m.answer c g < win m
     unfolding lost
     lost_below c e =
-        let two = and_parts (found c) (not (eqb (m.answer c g) (win m))) e in
+        let two = and_parts (found c) (not (m.answer c g == win m)) e in
         let other : m.answer c g ≡ win m → ⊥ = eqb-false (m.answer c g) (win m) (not-true _ two.1) in
         omega (arith, answer_below c two.0)
 
-    lost_class : (a : ℕ) → a < win m → how_many m.code_bound (λ c. lost c && eqb (m.answer c g) a) ≤ places m.naming m.answers k
+    lost_class : (a : ℕ) → a < win m → how_many m.code_bound (λ c. lost c && m.answer c g == a) ≤ places m.naming m.answers k
     unfolding lost
     lost_class a lt =
-        le_trans (count_part m.code_bound _ (λ c. found c && eqb (m.answer c g) a)
-        (λ c e. let two = and_parts (lost c) (eqb (m.answer c g) a) e in
-        and_from (found c) (eqb (m.answer c g) a) (and_parts (found c) (not (eqb (m.answer c g) (win m))) two.0).0 two.1))
+        le_trans (count_part m.code_bound _ (λ c. found c && m.answer c g == a)
+        (λ c e. let two = and_parts (lost c) (m.answer c g == a) e in
+        and_from (found c) (m.answer c g == a) (and_parts (found c) (not (m.answer c g == win m)) two.0).0 two.1))
         (class_bound a (and_right m.naming _ (ne_eqb a (win m) (omega arith))))
 
     ask_bound : (naming : Bool) → m.naming ≡ naming → how_many m.code_bound found ≤ places m.naming m.answers (suc k)
@@ -102,7 +102,7 @@ module _ (m : Meaning) (lawful : Lawful m) where
         rw (places_more m.naming m.answers k e)
         (count_classes m.answers _ m.code_bound (λ c. m.answer c g) found answer_below (λ a lt. class_bound a (and_left m.naming _ e)))
     ask_bound true e =
-        rw (places_more_naming m.naming m.answers k e, count_two m.code_bound found (λ c. eqb (m.answer c g) (win m)))
+        rw (places_more_naming m.naming m.answers k e, count_two m.code_bound found (λ c. m.answer c g == win m))
         (add-le-add (won e) (count_classes (win m) _ m.code_bound (λ c. m.answer c g) lost lost_below lost_class))
 
   branch_bound : (k a p : ℕ) (S : Codes) (s : Strategy) (rest : Branches) → ending S k (λ c. play m c false s) ≤ p → ending S k (λ c. follow m c a rest) ≤ p
@@ -122,4 +122,4 @@ module _ (m : Meaning) (lawful : Lawful m) where
     branches_bound : (rest : Branches) → AreBranches m rest → (k a : ℕ) → wins m a ≡ false → (S : Codes) → ending S k (λ c. follow m c a rest) ≤ places m.naming m.answers k
     branches_bound no_more h k a e S = rw (count_none m.code_bound _ (λ c lt f. false≢true (ends S k (λ x. none) c f).2)) zero-le
     branches_bound (branch b s rest) h k a e S =
-        branch_bound k a _ S s rest (strategy_bound s h.2 k S) (branches_bound rest h.3 k a e S) (eqb a b) (wins m a) e
+        branch_bound k a _ S s rest (strategy_bound s h.2 k S) (branches_bound rest h.3 k a e S) (a == b) (wins m a) e

@@ -1,5 +1,5 @@
 -- What `how_many` gives: of a part, of nothing, of one, and of classes. Assumes nothing.
-use Rattle.std.proofs.Common.{◌≡◌, ℕ, zero, suc, ◌+◌, ◌*◌, ◌<◌, ◌≤◌, Bool, true, false, not, ◌&&◌, eqb, sym, refl, ◌∙◌, zero-le, le_trans, not-suc-le-zero, suc-mul, arith}
+use Rattle.std.proofs.Common.{◌≡◌, ℕ, zero, suc, ◌+◌, ◌*◌, ◌<◌, ◌≤◌, Bool, true, false, not, ◌&&◌, ◌==◌, sym, refl, ◌∙◌, zero-le, le_trans, not-suc-le-zero, suc-mul, arith}
 use Rattle.std.proofs.lemmas.Bool.{eqb-false, and_parts, and_from, not-true, true≢false}
 use Rattle.rule.specs.Laws.Totals.{total_add, total_same, total_le, total_zero}
 use Rattle.rule.specs.Digits.{tally, how_many}
@@ -46,7 +46,7 @@ count_two n P q =
 -- A classes of at most b each
 pub count_classes : (A b n : ℕ) (f : ℕ → ℕ) (P : ℕ → Bool)
     → ((x : ℕ) → P x ≡ true → f x < A)
-    → ((a : ℕ) → a < A → how_many n (λ x. P x && eqb (f x) a) ≤ b)
+    → ((a : ℕ) → a < A → how_many n (λ x. P x && f x == a) ≤ b)
     → how_many n P ≤ A * b
 count_classes zero b n f P below each = rw (count_none n P (λ x lt e. not-suc-le-zero (below x e))) zero-le
 count_classes (suc A) b n f P below each =
@@ -54,7 +54,7 @@ count_classes (suc A) b n f P below each =
     rw (count_two n P last, suc-mul A b) (omega (arith, each A (omega arith)))
   where
     last : ℕ → Bool
-    last x = eqb (f x) A
+    last x = f x == A
 
     others : ℕ → Bool
     others x = P x && not (last x)
@@ -65,11 +65,11 @@ count_classes (suc A) b n f P below each =
         let other : f x ≡ A → ⊥ = eqb-false (f x) A (not-true (last x) two.1) in
         omega (arith, below x two.0)
 
-    smaller : (a : ℕ) (x : ℕ) → (others x && eqb (f x) a) ≡ true → (P x && eqb (f x) a) ≡ true
+    smaller : (a : ℕ) (x : ℕ) → (others x && f x == a) ≡ true → (P x && f x == a) ≡ true
     smaller a x e =
-        let two = and_parts (others x) (eqb (f x) a) e in
-        and_from (P x) (eqb (f x) a) (and_parts (P x) (not (last x)) two.0).0 two.1
+        let two = and_parts (others x) (f x == a) e in
+        and_from (P x) (f x == a) (and_parts (P x) (not (last x)) two.0).0 two.1
 
-    each_other : (a : ℕ) → a < A → how_many n (λ x. others x && eqb (f x) a) ≤ b
+    each_other : (a : ℕ) → a < A → how_many n (λ x. others x && f x == a) ≤ b
     each_other a lt =
-        le_trans (count_part n (λ x. others x && eqb (f x) a) (λ x. P x && eqb (f x) a) (smaller a)) (each a (omega arith))
+        le_trans (count_part n (λ x. others x && f x == a) (λ x. P x && f x == a) (smaller a)) (each a (omega arith))

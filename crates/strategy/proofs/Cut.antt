@@ -1,13 +1,12 @@
 -- Places cut at the most codes that a game can have: the cut of each is got from the cut of the one before, and it bounds
 -- what strategies find. Assumes nothing.
-use Rattle.std.proofs.Common.{◌≡◌, ℕ, zero, suc, ◌+◌, ◌-◌, ◌*◌, ◌<◌, ◌≤◌, min, Bool, true, false, ◌&&◌, ltb, ◌⊎◌, sym, refl, ◌∙◌, subst₂, inl, inr, mul-le-mul_right, zero-mul, arith}
-use mir.Val.{bool_byte}
-use Rattle.std.proofs.lemmas.Bool.{cases_lt, lt-ltb, le-ltb}
+use Rattle.std.proofs.Common.{◌≡◌, ℕ, zero, suc, ◌+◌, ◌-◌, ◌*◌, ◌<◌, ◌≤◌, min, Bool, true, false, ◌&&◌, ◌⊎◌, refl, subst₂, inl, inr, mul-le-mul_right, zero-mul, arith}
+use Rattle.std.specs.Int.{from_bool}
+use Rattle.std.proofs.lemmas.Bool.{cases_lt}
 use Rattle.strategy.specs.Strategy.{places, size, found_within}
-use Rattle.strategy.specs.Theorems.{FindsAtMost, NotAll}
+use Rattle.strategy.specs.Theorems.{FindsAtMost}
 use Rattle.strategy.proofs.Counts.{count_le}
 use Rattle.strategy.proofs.Counting.{strategy_bound}
-use Rattle.strategy.proofs.Refutations.{count_right}
 
 -- a product is cut as the product of a cut factor, with b more in both
 pub cut_product : (b x p : ℕ) → min (b + x * min p 16384) 16384 ≡ min (b + x * p) 16384
@@ -33,33 +32,15 @@ at_most naming answers k r e m lawful kind many s fits S =
     let found = subst₂ (λ (b : Bool) (a : ℕ). size m (found_within m s k S) ≤ places b a k) kind many (strategy_bound m lawful s fits k S) in
     omega (arith, count_le m.code_bound (λ c. m.is_code c && found_within m s k S c), lawful.few_codes)
 
-pub not_all : (naming : Bool) (answers k codes : ℕ) → min (places naming answers k) 16384 < codes → NotAll naming answers k codes
-not_all naming answers k codes more m lawful kind many S e =
-    let room = subst₂ (λ (b : Bool) (a : ℕ). places b a k ≡ places naming answers k) (sym kind) (sym many) refl in
-    count_right m lawful S k (omega (arith, room, count_le m.code_bound (λ c. m.is_code c && S c), lawful.few_codes))
-
--- up to the cut it does not change which numbers are past it
-pub cut_test : (p n : ℕ) → n ≤ 16384 → ltb (min p 16384) n ≡ ltb p n
-cut_test p n h = go (cases_lt p n)
-  where
-    go : (p < n) ⊎ (n ≤ p) → ltb (min p 16384) n ≡ ltb p n
-    go (inl lt) = lt-ltb (min p 16384) n (omega arith) ∙ sym (lt-ltb p n lt)
-    go (inr le) = le-ltb (min p 16384) n (omega arith) ∙ sym (le-ltb p n le)
-
--- without a guess: the one place is taken from the win, if there is one
-pub cut_none : (naming : Bool) (answers k : ℕ) → k ≡ 0 → 1 - bool_byte naming ≡ min (places naming answers k) 16384
-cut_none true answers k e = rw e
-cut_none false answers k e = rw e
-
 -- with one guess more
 pub cut_next : (naming : Bool) (answers k fewer : ℕ) → (k ≡ 0 → ⊥) → fewer ≡ min (places naming answers (k - 1)) 16384
-    → min (bool_byte naming + (answers - bool_byte naming) * fewer) 16384 ≡ min (places naming answers k) 16384
+    → min (from_bool naming + (answers - from_bool naming) * fewer) 16384 ≡ min (places naming answers k) 16384
 cut_next naming answers zero fewer some e = absurd (some refl)
 cut_next naming answers (suc k) fewer some e =
     let below : suc k - 1 ≡ k = omega arith in
     go naming (rw below at e)
   where
-    go : (b : Bool) → fewer ≡ min (places b answers k) 16384 → min (bool_byte b + (answers - bool_byte b) * fewer) 16384 ≡ min (places b answers (suc k)) 16384
+    go : (b : Bool) → fewer ≡ min (places b answers k) 16384 → min (from_bool b + (answers - from_bool b) * fewer) 16384 ≡ min (places b answers (suc k)) 16384
     go true cut = rw cut (cut_product 1 (answers - 1) (places true answers k))
     go false cut =
         let all : answers - 0 ≡ answers = omega arith in

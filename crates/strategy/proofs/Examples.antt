@@ -1,5 +1,5 @@
 -- The two small games, computed. Assumes nothing.
-use Rattle.std.proofs.Common.{◌≡◌, ℕ, zero, suc, ◌<◌, ◌≤◌, Bool, true, false, cond, not, ◌&&◌, ◌||◌, ltb, refl, inl, inr, arith, lit<, lit≤}
+use Rattle.std.proofs.Common.{◌≡◌, ℕ, zero, suc, ◌<◌, ◌≤◌, Bool, true, false, cond, not, ◌&&◌, ◌||◌, nat_lt, refl, inl, inr, arith, lit<, lit≤}
 use Rattle.std.proofs.lemmas.Bool.{ltb-true, and_parts, false≢true, not-true}
 use Rattle.rule.specs.Laws.Below.{all_below_at}
 use Rattle.rule.specs.Laws.CoinLaws.{coins_lawful}
@@ -15,7 +15,7 @@ use Rattle.strategy.specs.Strategy.{Strategy, worst_case, Codes, all_codes, that
 -- a reply that is no win and leaves more codes than there are places
 abbrev overfull : (m : Meaning) → Codes → ℕ → (ℕ → ℕ) → ℕ → Bool
 overfull m S k reply g =
-    ltb (reply g) m.answers && (not (wins m (reply g)) && ltb (places m.naming m.answers k) (size m (that_answer m S g (reply g))))
+    nat_lt (reply g) m.answers && (not (wins m (reply g)) && nat_lt (places m.naming m.answers k) (size m (that_answer m S g (reply g))))
 
 if_admitted : (a b : Bool) → (not a || b) ≡ true → a ≡ true → b ≡ true
 if_admitted true b e h = e
@@ -27,11 +27,11 @@ split_at_once : (m : Meaning) (S : Codes) (k : ℕ) (reply : ℕ → ℕ) → ((
 split_at_once m S k reply below test =
     split reply (λ g e. (ltb-true _ _ (good g e).0, not-true _ (rest g e).0)) (λ g e. count (ltb-true _ _ (rest g e).1))
   where
-    good : (g : ℕ) → m.admits g ≡ true → (ltb (reply g) m.answers ≡ true) × ((not (wins m (reply g)) && ltb (places m.naming m.answers k) (size m (that_answer m S g (reply g)))) ≡ true)
+    good : (g : ℕ) → m.admits g ≡ true → (nat_lt (reply g) m.answers ≡ true) × ((not (wins m (reply g)) && nat_lt (places m.naming m.answers k) (size m (that_answer m S g (reply g)))) ≡ true)
     good g e =
         and_parts _ _ (if_admitted (m.admits g) (overfull m S k reply g) (all_below_at m.guess_bound _ test g (below g e)) e)
 
-    rest : (g : ℕ) → m.admits g ≡ true → (not (wins m (reply g)) ≡ true) × (ltb (places m.naming m.answers k) (size m (that_answer m S g (reply g))) ≡ true)
+    rest : (g : ℕ) → m.admits g ≡ true → (not (wins m (reply g)) ≡ true) × (nat_lt (places m.naming m.answers k) (size m (that_answer m S g (reply g))) ≡ true)
     rest g e = and_parts _ _ (good g e).1
 
 pub in_turn_finds : FindsEvery one_peg in_turn
@@ -39,7 +39,7 @@ unfolding is_row peg_answer pairs
 in_turn_finds zero e = (1, refl)
 in_turn_finds (suc zero) e = (2, refl)
 in_turn_finds (suc (suc c)) e =
-    let below = ltb-true (suc (suc c)) 2 (and_parts (ltb (suc (suc c)) 2) _ e).0 in
+    let below = ltb-true (suc (suc c)) 2 (and_parts (nat_lt (suc (suc c)) 2) _ e).0 in
     let never : ⊥ = omega arith in
     absurd never
 
@@ -49,11 +49,11 @@ in_turn_fits = (refl, (lit< tt, (λ e. omega (arith, e), tt), (refl, (lit< tt, t
 
 -- level where that leaves more than three codes, else the left pan
 heavier_part : ℕ → ℕ
-heavier_part g = cond (ltb 3 (size (coins 4) (that_answer (coins 4) all_codes g 0))) 0 1
+heavier_part g = cond (nat_lt 3 (size (coins 4) (that_answer (coins 4) all_codes g 0))) 0 1
 
 weighing_below : (g : ℕ) → (coins 4).admits g ≡ true → g < 81
 unfolding is_weighing
-weighing_below g e = ltb-true g 81 (and_parts (ltb g 81) _ (and_parts _ _ e).0).0
+weighing_below g e = ltb-true g 81 (and_parts (nat_lt g 81) _ (and_parts _ _ e).0).0
 
 pub four_coins_refuted : Refutation (coins 4) all_codes 2
 unfolding is_weighing weighed heavier_part

@@ -1,8 +1,8 @@
 -- How a play goes on from a leaf, a guess and a branch. Assumes nothing.
-use Rattle.std.proofs.Common.{◌≡◌, ℕ, suc, Bool, true, false, cond, eqb, ◌⊎◌, sym, refl, ◌∙◌, inl, inr}
-use mathlib.Core.Bool.{beq}
-use mathlib.Core.Option.{Option, none, some}
-use lib.Dec.{leb-zero, leb-suc-zero, leb-suc-suc}
+use Rattle.std.proofs.Common.{◌≡◌, ℕ, suc, Bool, true, false, cond, ◌==◌, ◌⊎◌, sym, refl, ◌∙◌, inl, inr}
+use Rattle.std.specs.Bool.{beq}
+use Rattle.std.proofs.Math.Option.{Option, none, some}
+use Rattle.std.proofs.Math.Dec.{leb-zero, leb-suc-zero, leb-suc-suc}
 use Rattle.std.proofs.lemmas.Bool.{eqb-true, and_parts, false≢true}
 use Rattle.rule.specs.Meaning.{Meaning}
 use Rattle.strategy.specs.Strategy.{Strategy, Branches, leaf, no_more, branch, IsStrategy, AreBranches, wins, one_more, play, follow, within}
@@ -32,7 +32,7 @@ not_naming false e = refl
 -- a leaf with no guess before it finds its own code, and only where the game is not a naming one
 pub leaf_finds : (m : Meaning) (c d j : ℕ) → within j (play m c false (leaf d)) ≡ true → (m.naming ≡ false) × (c ≡ d)
 leaf_finds m c d j e =
-    let two = and_parts (beq false m.naming) (eqb d c) (at_leaf j _ e) in
+    let two = and_parts (beq false m.naming) (d == c) (at_leaf j _ e) in
     (not_naming m.naming two.0, sym (eqb-true d c two.1))
 
 -- what a leaf finds, it finds without a guess
@@ -43,12 +43,12 @@ leaf_at_once m c d j k e = leaf_at k _ (at_leaf j _ e)
 pub child : (m : Meaning) (a : ℕ) (rest : Branches) → AreBranches m rest
     → ((s : Strategy) × IsStrategy m s × ((c : ℕ) → follow m c a rest ≡ play m c (wins m a) s)) ⊎ ((c : ℕ) → follow m c a rest ≡ none)
 child m a no_more h = inr (λ c. refl)
-child m a (branch b s rest) h = go (child m a rest h.3) (eqb a b) refl
+child m a (branch b s rest) h = go (child m a rest h.3) (a == b) refl
   where
     Child : Branches → Type 0
     Child bs = ((t : Strategy) × IsStrategy m t × ((c : ℕ) → follow m c a bs ≡ play m c (wins m a) t)) ⊎ ((c : ℕ) → follow m c a bs ≡ none)
 
-    go : Child rest → (t : Bool) → eqb a b ≡ t → Child (branch b s rest)
+    go : Child rest → (t : Bool) → (a == b) ≡ t → Child (branch b s rest)
     go later true e = inl (s, h.2, λ c. rw e)
     go (inl t) false e = inl (t.0, t.1, λ c. rw e (t.2 c))
     go (inr f) false e = inr (λ c. rw e (f c))

@@ -1,7 +1,7 @@
 -- A refutation is right of every strategy. Each kind of evidence has a lemma of its own, about sets that are out of reach.
 -- Assumes nothing.
-use Rattle.std.proofs.Common.{◌≡◌, ℕ, zero, suc, ◌+◌, ◌<◌, ◌≤◌, max, true, false, ◌&&◌, eqb, ◌⊎◌, sym, ◌∙◌, subst, inl, inr, not-suc-le-zero, arith}
-use mathlib.Core.Option.{none}
+use Rattle.std.proofs.Common.{◌≡◌, ℕ, zero, suc, ◌+◌, ◌<◌, ◌≤◌, max, true, false, ◌&&◌, ◌==◌, ◌⊎◌, sym, ◌∙◌, subst, inl, inr, not-suc-le-zero, arith}
+use Rattle.std.proofs.Math.Option.{none}
 use Rattle.std.proofs.lemmas.Bool.{eqb-true, and_parts, and_from, le-leb, cases_lt, true≢false, false≢true}
 use Rattle.rule.specs.Meaning.{Meaning, Lawful}
 use Rattle.strategy.specs.Strategy.{Strategy, Branches, leaf, ask, IsStrategy, FindsEvery, wins, play, follow, within, cost, guesses, greatest, worst_case, Codes, all_codes, that_answer, found_within, places, size, Refutation, count, split}
@@ -28,7 +28,7 @@ module _ (m : Meaning) (lawful : Lawful m) where
         -- a code that the reply leaves is found from the child on within k guesses
         later : (c : ℕ) → m.is_code c ≡ true → that_answer m S g (reply g) c ≡ true → within k (follow m c (reply g) rest) ≡ true
         later c code e =
-            let two = and_parts (S c) (eqb (m.answer c g) (reply g)) e in
+            let two = and_parts (S c) (m.answer c g == reply g) e in
             let same = eqb-true (m.answer c g) (reply g) two.1 in
             rw same at (one_fewer k (follow m c (m.answer c g) rest) (all c code two.0))
 
@@ -39,7 +39,7 @@ module _ (m : Meaning) (lawful : Lawful m) where
     pub split_right : (g : ℕ) → m.admits g ≡ true → OutOfReach m S (suc k)
     split_right g admitted (leaf d) fits all =
         left g admitted (leaf d) fits
-        (λ c code e. leaf_at_once m c d (suc k) k (all c code (and_parts (S c) (eqb (m.answer c g) (reply g)) e).0))
+        (λ c code e. leaf_at_once m c d (suc k) k (all c code (and_parts (S c) (m.answer c g == reply g) e).0))
     split_right g admitted (ask h rest) fits all = split_ask h rest fits all
 
   -- where a guess can be asked, a refuted set is out of reach

@@ -1,17 +1,13 @@
-use Rattle.std.proofs.Common.{◌≡◌, ◌-◌, min}
-use Rattle.strategy.specs.Strategy.{places}
-use Rattle.strategy.proofs.Cut.{at_most, cut_none, cut_next}
+use Rattle.std.proofs.Common.{rules, arith}
+use Rattle.std.proofs.lemmas.Grind.{common_steps}
+use Rattle.strategy.proofs.Cut.{at_most, cut_next}
 use Rattle.strategy.proofs.+places.Goals as goal
 
-pub returns-then-k-eq0 : goal.returns-then-k-eq0
-returns-then-k-eq0 t c =
-    let value : 1 - c.from-wins.result ≡ min (places c.args.naming c.args.answers c.args.k) 16384 =
-    rw c.from-wins.ensures (cut_none c.args.naming c.args.answers c.args.k c.if-k-eq0.true) in
-    record { value = value; most = at_most c.args.naming c.args.answers c.args.k _ value }
+pub returns-then-k-eq0-clause-most : goal.returns-then-k-eq0-clause-most
+returns-then-k-eq0-clause-most t c = at_most c.args.naming c.args.answers c.args.k _ (search rules)
 
-pub returns : goal.returns
-returns t c =
-    let next = cut_next c.args.naming c.args.answers c.args.k c.places.result c.if-k-eq0.false c.places.ensures.value in
-    let value : c.min.result ≡ min (places c.args.naming c.args.answers c.args.k) 16384 =
-    rw (c.min.ensures, c.saturating_sub-others.ensures, c.from.ensures, c.from-wins.ensures) next in
-    record { value = value; most = at_most c.args.naming c.args.answers c.args.k _ value }
+pub returns-clause-value : goal.returns-clause-value
+returns-clause-value t c = search (rules, cut_next)
+
+pub returns-clause-most : goal.returns-clause-most
+returns-clause-most t c = at_most c.args.naming c.args.answers c.args.k _ (grind (arith, common_steps, cut_next))

@@ -1,14 +1,10 @@
-use Rattle.std.proofs.Common.{◌<◌, length, take, set, sym, ap, ◌∙◌, arith}
-use Rattle.std.proofs.lemmas.Bool.{lt-ltb, true≢false}
-use Rattle.layer.proofs.Entries.{entered_at}
+use Rattle.std.proofs.Common.{rules, tests, arith}
+use Rattle.std.proofs.lemmas.Grind.{common_steps}
+use Rattle.layer.proofs.Entries.{entered_at, still_packed}
 use Rattle.layer.proofs.notes.Notes.enter.Goals as goal
 
-pub returns : goal.returns
-returns c =
-    let same = ap length c.places.ensures.value in
-    let room : c.find-at.result < 8 = omega (arith, c.places.ensures.len) in
-    record {
-      told = sym (lt-ltb _ 8 (omega (arith, c.find-at.ensures)));
-      after = ap (λ n. take n (set c.args.self.now.entries c.find-at.result c.args.hint)) c.max-self.ensures ∙ entered_at c.args.self.now.entries c.args.self.now.used c.find-at.result c.args.hint (omega (arith, same)) c.find-at.ensures;
-      same = λ e. absurd (true≢false e);
-    }
+pub invariant_of-self : goal.invariant_of-self
+invariant_of-self c = search (rules, tests, still_packed)
+
+pub returns-clause-after : goal.returns-clause-after
+returns-clause-after c = grind (arith, common_steps, entered_at)

@@ -1,21 +1,15 @@
-use Rattle.std.proofs.Common.{◌≡◌, arith}
-use Rattle.std.proofs.lemmas.List.{at_drop_all}
+use Rattle.std.proofs.Common.{◌≡◌, length, ap, ◌∙◌, rules, tests}
+use Rattle.std.specs.List.{position_or_len}
+use Rattle.std.proofs.lemmas.Iterator.{YieldsList-from_slice}
+use Rattle.std.proofs.lemmas.Iterator.Search.{position_from_yields_List}
 use Rattle.layer.specs.Hints.{place_of}
-use Rattle.layer.specs.Notes.{listed}
-use Rattle.layer.proofs.Entries.{place_here, place_past}
+use Rattle.layer.proofs.Entries.{first_place, takes}
 use Rattle.layer.proofs.notes.Notes.find.Goals as goal
-
-pub returns-then-entry-guess : goal.returns-then-entry-guess
-returns-then-entry-guess c =
-    let here = place_here c.args.guess (listed c.args.self.now) c.loop-at.at c.entry.result (omega (arith, c.len-at-end.ensures.value)) c.entry.ensures c.if-entry-guess.true in
-    omega (arith, here, c.loop-at.invariant)
-
-pub loop-at-preserved : goal.loop-at-preserved
-loop-at-preserved c =
-    let past = place_past c.args.guess (listed c.args.self.now) c.loop-at.at c.entry.result (omega (arith, c.len-at-end.ensures.value)) c.entry.ensures c.if-entry-guess.false in
-    omega (arith, past, c.loop-at.invariant)
 
 pub returns : goal.returns
 returns c =
-    let done : place_of c.args.guess _ ≡ 0 = at_drop_all (place_of c.args.guess) (listed c.args.self.now) c.loop-at.at (omega (arith, c.len-at-end.ensures.value)) in
-    omega (arith, done, c.loop-at.invariant, c.len.ensures.value, c.len-at-end.ensures.value)
+    let entries = c.self.inside.entries in
+    let found = position_from_yields_List (takes c.args.guess) _ _ _ c.position.ensures.ran (YieldsList-from_slice entries (search rules)) (λ x b q k. search (rules, tests)) in
+    let place = ap (position_or_len (takes c.args.guess)) c.self.invariant ∙ first_place c.args.guess _ _ ∙ ap (place_of c.args.guess) c.self.view_is in
+    let long : length entries ≡ 8 = search rules in
+    cc

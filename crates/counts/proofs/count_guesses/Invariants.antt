@@ -1,6 +1,0 @@
-use Rattle.std.proofs.Common.{◌≡◌, ◌≤◌}
-use Rattle.rule.specs.Digits.{how_many}
-use Rattle.counts.proofs.count_guesses.Given as goal
-
-abbrev pub invariant-loop-number : goal.invariant-loop-number
-invariant-loop-number g l = (l.count ≡ how_many l.number (g.R.AnswerRule.meaning l.rule).admits) × (l.count ≤ l.number)
