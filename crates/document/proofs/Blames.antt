@@ -1,7 +1,7 @@
 -- The lowest of the records that are blamed. Assumes nothing.
 use Rattle.std.proofs.Common.{◌≡◌, ℕ, ◌+◌, ◌-◌, ◌<◌, ◌≤◌, min, ◌⊎◌, List, Some, None, Option, Ok, Err, sym, refl, subst, inl, inr, ⊎_elim, arith}
 use Rattle.std.proofs.lemmas.Bool.{cases_lt}
-use Rattle.document.specs.declared.record.Kind.{Kind}
+use Rattle.document.specs.declared.kind.Kind.{Kind}
 use Rattle.document.specs.declared.record.Record.{Record}
 use Rattle.document.specs.declared.row.Misfit.{Misfit}
 use Rattle.document.specs.Forms.{Row, Children, Behind, Plain, Blames, Faulty}

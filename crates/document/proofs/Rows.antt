@@ -1,6 +1,6 @@
 -- One step back over a sibling. Assumes nothing.
 use Rattle.std.proofs.Common.{◌≡◌, ℕ, ◌+◌, ◌-◌, ◌<◌, ◌≤◌, List, [], ◌∷◌, sym, refl, ap, subst, inl, inr, ⊎_elim, arith, Some, None, Option, Result, Ok, Err}
-use Rattle.document.specs.declared.record.Kind.{Kind}
+use Rattle.document.specs.declared.kind.Kind.{Kind}
 use Rattle.document.specs.declared.record.Record.{Record}
 use Rattle.document.specs.declared.row.Misfit.{Misfit}
 use Rattle.document.specs.Forms.{key, Row, Begins, Beside}

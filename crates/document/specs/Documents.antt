@@ -17,6 +17,11 @@ tree_letter = 84
 abbrev pub refutation_letter : ℕ
 refutation_letter = 82
 
+-- what a document holds, of either kind
+abbrev pub contents_of : Document → Contents
+contents_of (Tree d) = d
+contents_of (Refutation d) = d
+
 -- the paper of a document: a tree has the letter T, a refutation the letter R
 abbrev pub document_paper : Document → Paper
 document_paper (Tree d) = contents_paper tree_letter d

@@ -1,6 +1,6 @@
 -- What one record's own look beneath it tells. Assumes nothing.
 use Rattle.std.specs.Prelude.{ℕ, ◌<◌, min, List, Some, None, Option, Result, Ok, Err}
-use Rattle.document.specs.declared.record.Kind.{Kind}
+use Rattle.document.specs.declared.kind.Kind.{Kind}
 use Rattle.document.specs.declared.record.Record.{Record}
 use Rattle.document.specs.declared.row.Misfit.{Misfit}
 use Rattle.document.specs.Forms.{Row, Behind, Blames}

@@ -4,7 +4,8 @@ ghost use Rattle.document.specs.Bytes.{record_at};
 ghost use Rattle.document.specs.Forms.{Shaped, Unasked, Plain, Blames, Faulty};
 ghost use Rattle.document.specs.Walks.{Least, lower};
 
-use crate::record::{Kind, Record, record_at};
+use crate::kind::Kind;
+use crate::record::{Record, record_at};
 use crate::row::{Misfit, lowest_late};
 
 fn is_shaped(kind: Kind, item: Record) -> bool

@@ -2,11 +2,11 @@
 ghost use Rattle.std.specs.Prelude.{◌≡◌, MatchResult};
 ghost use Rattle.document.specs.Order.{Passed, Refused};
 ghost use Rattle.document.specs.Checks.{paper_of, paper_tests, letter_for, lettered};
-ghost use Rattle.document.specs.Documents.{document_paper};
+ghost use Rattle.document.specs.Documents.{contents_of, document_paper};
 
-use crate::record::Kind;
+use crate::kind::Kind;
 use crate::sheet::{
-    FileFault, Sheet, Takes, check_figures, check_lengths, check_letter, check_records, check_title,
+    FileFault, Sheet, check_figures, check_lengths, check_letter, check_records, check_title,
 };
 
 // What a document holds; title and records are parts of the bytes it was read from.
@@ -23,6 +23,16 @@ pub struct Contents<'a> {
 pub enum Document<'a> {
     Tree(Contents<'a>),
     Refutation(Contents<'a>),
+}
+
+impl<'a> Document<'a> {
+    pub(crate) fn contents(self) -> Contents<'a>
+        ensures { result ≡ contents_of self.entry }
+    {
+        match self {
+            Document::Tree(contents) | Document::Refutation(contents) => contents,
+        }
+    }
 }
 
 fn document_of<'a>(kind: Kind, sheet: Sheet<'a>) -> Document<'a>
@@ -45,7 +55,7 @@ fn document_of<'a>(kind: Kind, sheet: Sheet<'a>) -> Document<'a>
 pub fn judged<'a>(sheet: Sheet<'a>) -> Result<Document<'a>, FileFault>
     ensures { MatchResult result (λ d. (document_paper d ≡ paper_of sheet.entry) × Passed (paper_tests (paper_of sheet.entry))) (λ f. Refused (paper_tests (paper_of sheet.entry)) f.fault) }
 {
-    let kind = check_letter(Takes::Either, sheet.letter)?;
+    let kind = check_letter(None, sheet.letter)?;
     let count = check_lengths(sheet.title, sheet.records)?;
     check_title(sheet.title)?;
     check_figures(kind, sheet.first, sheet.second)?;

@@ -5,6 +5,7 @@ mod fields;
 mod file;
 mod form;
 mod judge;
+mod kind;
 mod reader;
 mod record;
 mod row;
@@ -12,6 +13,7 @@ mod sheet;
 
 pub use file::opened;
 pub use judge::{Contents, Document, judged};
+pub use kind::Kind;
 pub use reader::{read, read_refutation, read_tree};
-pub use record::{Kind, Record, record_in};
-pub use sheet::{FileFault, Sheet, Takes};
+pub use record::{Record, record_in};
+pub use sheet::{FileFault, Sheet};

@@ -3,7 +3,8 @@ ghost use Rattle.std.specs.Prelude.{◌*◌, ◌≤◌, length};
 ghost use Rattle.document.specs.Bytes.{record_at};
 ghost use Rattle.document.specs.Walks.{Tells};
 
-use crate::record::{Kind, key_of, record_at};
+use crate::kind::Kind;
+use crate::record::{key_of, record_at};
 
 // Spans that do not make the records between two places one row of siblings.
 #[derive(Clone, Copy, PartialEq, Eq, Debug)]
