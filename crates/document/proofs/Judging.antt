@@ -9,7 +9,7 @@ use Rattle.document.specs.Bytes.{Paper, record_at}
 use Rattle.document.specs.Forms.{Faulty}
 use Rattle.document.specs.Walks.{Least}
 use Rattle.document.specs.Order.{Passed, Refused}
-use Rattle.document.specs.Checks.{kind_of, letter_for, lettered, Taken, Sized, Printable, Ranged, paper_tests}
+use Rattle.document.specs.Checks.{kind_of, letter_for, Taken, Sized, Printable, Ranged, paper_tests}
 
 -- a letter that is taken is the letter of its kind
 pub same_letter : (letter : ℕ) → Taken None letter → letter_for (kind_of letter) ≡ letter
@@ -18,8 +18,8 @@ same_letter letter taken =
 
 module _ (p : Paper) (kind : Kind) (n : ℕ) (is : kind ≡ kind_of p.letter) (count : n ≡ length p.records / 12)
     (taken : Taken None p.letter) (sized : Sized p.title p.records) (printable : Printable p.title) (ranged : Ranged kind p.first p.second) where
-  pub own_paper : lettered (letter_for kind) p ≡ p
-  own_paper = ap (λ l. lettered l p) (ap letter_for is ∙ same_letter p.letter taken)
+  pub own_letter : letter_for kind ≡ p.letter
+  own_letter = ap letter_for is ∙ same_letter p.letter taken
 
   pub all_passed : Least (Faulty kind (record_at p.records) n) None → Passed (paper_tests p)
   all_passed free =

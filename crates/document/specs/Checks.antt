@@ -8,6 +8,7 @@ use Rattle.document.specs.declared.kind.Kind.{Kind}
 use Rattle.document.specs.declared.kind.Kind.TheVariants.{Tree, Refutation}
 use Rattle.document.specs.declared.sheet.Sheet.{Sheet}
 use Rattle.document.specs.declared.sheet.FileFault.{FileFault}
+use Rattle.document.specs.Documents.{contents_paper}
 use Rattle.document.specs.Bytes.{Paper, record_at}
 use Rattle.document.specs.Forms.{Faulty}
 use Rattle.document.specs.Order.{Test, whole, each}
@@ -21,10 +22,6 @@ kind_of letter = cond (letter == 84) Tree Refutation
 abbrev pub letter_for : Kind → ℕ
 letter_for Tree = 84
 letter_for Refutation = 82
-
--- a paper with another letter
-abbrev pub lettered : ℕ → Paper → Paper
-lettered letter p = record { letter = letter; title = p.title; records = p.records; first = p.first; second = p.second; game = p.game }
 
 -- the letters that a call takes, of either kind or of one alone
 abbrev pub Taken : Option Kind → ℕ → Type 0
@@ -72,4 +69,4 @@ paper_tests p =
 
 -- what a sheet says
 abbrev pub paper_of : Sheet → Paper
-paper_of s = record { letter = s.letter; title = s.title.now; records = s.records.now; first = s.first; second = s.second; game = s.game }
+paper_of s = contents_paper s.letter s.contents

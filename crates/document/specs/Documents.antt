@@ -1,5 +1,5 @@
 -- What a document that was read says. Assumes nothing.
-use Rattle.document.specs.declared.judge.Contents.{Contents}
+use Rattle.document.specs.declared.sheet.Contents.{Contents}
 use Rattle.document.specs.declared.judge.Document.{Document}
 use Rattle.document.specs.declared.judge.Document.TheVariants.{Tree, Refutation}
 use Rattle.document.specs.Bytes.{Paper}

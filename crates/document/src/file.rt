@@ -7,7 +7,7 @@ ghost use Rattle.document.specs.Files.{trailer_in, Agreed, paper_in, opening_tes
 
 use crate::fields::{four_at, two_at};
 use crate::kind::Kind;
-use crate::sheet::{FileFault, Sheet, check_letter, check_title};
+use crate::sheet::{Contents, FileFault, Sheet, check_letter, check_title};
 use fault::{Check, Place};
 
 #[derive(Clone, Copy)]
@@ -83,10 +83,12 @@ pub fn opened<'a>(only: Option<Kind>, file: &'a [u8]) -> Result<Sheet<'a>, FileF
     check_title(title)?;
     Ok(Sheet {
         letter: trailer.letter,
-        title,
-        records: &file[start..end],
-        first: trailer.first,
-        second: trailer.second,
-        game: trailer.game,
+        contents: Contents {
+            title,
+            records: &file[start..end],
+            first: trailer.first,
+            second: trailer.second,
+            game: trailer.game,
+        },
     })
 }

@@ -12,8 +12,8 @@ mod row;
 mod sheet;
 
 pub use file::opened;
-pub use judge::{Contents, Document, judged};
+pub use judge::{Document, judged};
 pub use kind::Kind;
 pub use reader::{read, read_refutation, read_tree};
 pub use record::{Record, record_in};
-pub use sheet::{FileFault, Sheet};
+pub use sheet::{Contents, FileFault, Sheet};

@@ -6,9 +6,9 @@ ghost use Rattle.document.specs.Documents.{contents_paper, document_paper, tree_
 ghost use Rattle.document.specs.Files.{Reads, Rejects};
 
 use crate::file::opened;
-use crate::judge::{Contents, Document, judged};
+use crate::judge::{Document, judged};
 use crate::kind::Kind;
-use crate::sheet::FileFault;
+use crate::sheet::{Contents, FileFault};
 
 fn read_as<'a>(only: Option<Kind>, file: &'a [u8]) -> Result<Document<'a>, FileFault>
     ensures { MatchResult result (λ d. Reads only file.now (document_paper d)) (λ f. Rejects only file.now f.fault) }

@@ -23,15 +23,22 @@ impl From<Fault> for FileFault {
     }
 }
 
-// What a document says, in the form of its file but for the trailer: nothing of it need be right.
+// What stands in a document; title and records are bytes, as in a file.
 #[derive(Clone, Copy)]
-pub struct Sheet<'a> {
-    pub letter: u8,
+pub struct Contents<'a> {
     pub title: &'a [u8],
     pub records: &'a [u8],
     pub first: u32,
     pub second: u32,
     pub game: u32,
+}
+
+// What a document says: nothing of it need be right.
+// The letter is any byte, since a wrong one is to be refused here; a narrower type would leave that to callers.
+#[derive(Clone, Copy)]
+pub struct Sheet<'a> {
+    pub letter: u8,
+    pub contents: Contents<'a>,
 }
 
 // Answers the kind that the letter stands for; with `only` given, no other kind is taken.
