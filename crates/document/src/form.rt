@@ -66,6 +66,7 @@ fn lower_of(a: Option<usize>, b: Option<usize>) -> Option<usize>
 pub(crate) fn lowest_faulty(kind: Kind, records: &[[u8; 12]]) -> Option<usize>
     ensures { Least (Faulty kind (chunk_at records.now) (length records.now)) result }
 {
+    // A loop, since `filter_map` tells of what it leaves out only where a closure computes a known function.
     let mut lowest = None;
     for i in 0..records.len() {
         lowest = lower_of(lowest, lowest_blamed(kind, records, i));
