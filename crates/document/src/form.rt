@@ -5,15 +5,17 @@ ghost use Rattle.document.specs.Forms.{Shaped, Unasked, Plain, Blames, Faulty};
 ghost use Rattle.document.specs.Walks.{Least, lower};
 
 use crate::kind::Kind;
-use crate::record::Record;
+use crate::record::{Record, RecordKind};
 use crate::row::{Misfit, lowest_late};
 
 fn is_shaped(kind: Kind, item: Record) -> bool
     ensures { Decides result (Shaped kind item) }
 {
-    match kind {
-        Kind::Tree => (item.kind == 0 && item.span == 0) || (item.kind == 1 && item.span > 0),
-        Kind::Refutation => (item.kind == 2 && item.span == 0) || item.kind == 3,
+    match (kind, item.kind) {
+        (Kind::Tree, RecordKind::Leaf) | (Kind::Refutation, RecordKind::Count) => item.span == 0,
+        (Kind::Tree, RecordKind::Guess) => item.span > 0,
+        (Kind::Refutation, RecordKind::Split) => true,
+        _ => false,
     }
 }
 
