@@ -10,13 +10,8 @@ use Rattle.document.proofs.Again.{size_is, stands_so, stands_says, stands_passed
 use Rattle.document.proofs.Orders.{passed_append, refused_front, refused_back, refused_rest}
 use Rattle.document.proofs.Reading.{paper_passed}
 use Rattle.writer.specs.Writing.{write_tests, rewrite_tests, Writes}
-use borrow.Rule.Slice.PartMut.{put_mid}
 use Rattle.std.proofs.lemmas.List.{append_assoc, take_at, drop_at, drop-drop, length-take, get_or-take, get_or_past}
 use Rattle.std.proofs.lemmas.Bool.{cases_lt}
-
-pub put_part : (at k : ℕ) (out part self : List ℕ) → self ≡ part → k ≡ length part → put_mid at k out self ≡ take at out ++ (part ++ drop (at + length part) out)
-put_part at k out part self is long =
-    ap (λ l. take at out ++ (l ++ drop k (drop at out))) is ∙ ap (λ n. take at out ++ (part ++ drop n (drop at out))) long ∙ ap (λ l. take at out ++ (part ++ l)) (drop-drop (length part) at out)
 
 -- with its front done, one more part of a buffer is put after it
 pub put_more : (done part before out after : List ℕ) (k n : ℕ) → length done ≡ k → out ≡ done ++ drop k before
