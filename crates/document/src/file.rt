@@ -9,7 +9,8 @@ use crate::kind::Kind;
 use crate::sheet::{Contents, FileFault, Sheet, check_letter, check_title};
 use fault::{Check, Place};
 
-#[derive(Clone, Copy)]
+// What the last 24 bytes of a file say, right or wrong.
+#[derive(Clone, Copy, PartialEq, Eq, Debug)]
 pub(crate) struct Trailer {
     letter: u8,
     edition: u8,
