@@ -1,37 +1,13 @@
 -- The lowest of the records that are blamed. Assumes nothing.
-use Rattle.std.proofs.Common.{◌≡◌, ℕ, ◌+◌, ◌-◌, ◌<◌, ◌≤◌, min, ◌⊎◌, List, Some, None, Option, Ok, Err, sym, refl, subst, inl, inr, ⊎_elim, arith}
-use Rattle.std.proofs.lemmas.Bool.{cases_lt}
+use Rattle.std.proofs.Common.{◌≡◌, ℕ, ◌-◌, ◌<◌, ◌≤◌, List, Some, None, Ok, Err, sym, refl, subst, inl, inr, ⊎_elim, arith}
 use Rattle.document.specs.declared.kind.Kind.{Kind}
 use Rattle.document.specs.declared.record.Record.{Record}
 use Rattle.document.specs.declared.row.Misfit.{Misfit}
 use Rattle.document.specs.Forms.{Row, Children, Behind, Plain, Blames, Faulty}
-use Rattle.document.specs.Walks.{Tells, Least, lower, Blamed}
+use Rattle.document.specs.Walks.{Tells, Least}
 use Rattle.document.proofs.Rows.{beside_below, row_same}
 
--- the lower of two least places is the least place of both properties
-least_lower : (P Q R : ℕ → Type 0) → ((p : ℕ) → P p → R p) → ((p : ℕ) → Q p → R p) → ((p : ℕ) → R p → P p ⊎ Q p)
-    → (a b : Option ℕ) → Least P a → Least Q b → Least R (lower a b)
-least_lower P Q R f g h None None x y = λ p r. ⊎_elim (x p) (y p) (h p r)
-least_lower P Q R f g h None (Some q) x y = (g q y.0, λ p l r. ⊎_elim (x p) (y.1 p l) (h p r))
-least_lower P Q R f g h (Some p) None x y = (f p x.0, λ q l r. ⊎_elim (x.1 q l) (y q) (h q r))
-least_lower P Q R f g h (Some p) (Some q) x y =
-    ⊎_elim
-    (λ (l : p < q). let e : min p q ≡ p = omega arith in (subst R (sym e) (f p x.0), λ k m r. ⊎_elim (x.1 k (omega arith)) (y.1 k (omega arith)) (h k r)))
-    (λ (l : q ≤ p). let e : min p q ≡ q = omega arith in (subst R (sym e) (g q y.0), λ k m r. ⊎_elim (x.1 k (omega arith)) (y.1 k (omega arith)) (h k r)))
-    (cases_lt p q)
-
 module _ (kind : Kind) (at : ℕ → Record) (n : ℕ) where
-  pub blamed_none : Least (Blamed kind at n 0) None
-  blamed_none = λ p b. omega (arith, b.1)
-
-  pub blamed_more : (i : ℕ) (a b : Option ℕ) → Least (Blamed kind at n i) a → Least (Blames kind at n i) b → Least (Blamed kind at n (i + 1)) (lower a b)
-  blamed_more i a b =
-      least_lower (Blamed kind at n i) (Blames kind at n i) (Blamed kind at n (i + 1))
-      (λ p x. (x.0, omega (arith, x.1), x.2))
-      (λ p x. (i, omega arith, x))
-      (λ p x. ⊎_elim (λ (l : x.0 < i). inl (x.0, l, x.2)) (λ (l : i ≤ x.0). let e : x.0 ≡ i = omega (arith, x.1) in inr (subst (λ k. Blames kind at n k p) e x.2)) (cases_lt x.0 i))
-      a b
-
   module _ (i : ℕ) where
     -- a child that is blamed stands below its parent
     below : (p : ℕ) (cs : List ℕ) → Children at i cs → Behind kind at cs p → p < i

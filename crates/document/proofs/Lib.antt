@@ -12,3 +12,4 @@ pub mod Standing
 pub mod Planting
 pub mod Growing
 pub mod Chunks
+pub mod Lowest

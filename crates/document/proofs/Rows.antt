@@ -1,5 +1,6 @@
 -- One step back over a sibling. Assumes nothing.
-use Rattle.std.proofs.Common.{◌≡◌, ℕ, ◌+◌, ◌-◌, ◌<◌, ◌≤◌, List, [], ◌∷◌, sym, refl, ap, subst, inl, inr, ⊎_elim, arith, Some, None, Option, Result, Ok, Err}
+use Rattle.std.proofs.Common.{◌≡◌, ℕ, zero, suc, ◌+◌, ◌-◌, ◌<◌, ◌≤◌, List, [], ◌∷◌, sym, refl, ap, subst, inl, inr, ⊎_elim, arith, Some, None, Option, Result, Ok, Err}
+use Rattle.std.proofs.lemmas.Bool.{cases_lt}
 use Rattle.document.specs.declared.kind.Kind.{Kind}
 use Rattle.document.specs.declared.record.Record.{Record}
 use Rattle.document.specs.declared.row.Misfit.{Misfit}
@@ -152,3 +153,35 @@ module _ (kind : Kind) (at : ℕ → Record) (low : ℕ) where
       let z = subst (λ k. Row at low ds (k - (at k).span)) e y.2 in
       let f = row_same cs ds (c - (at c).span) x.2 z in
       cc
+
+module _ (kind : Kind) (at : ℕ → Record) where
+  stays : (low end : ℕ) (r : Result (Option ℕ) Misfit) → Tells kind at low end r → Tells kind at low end (over None r)
+  stays low end (Err misfit) tells = tells
+  stays low end (Ok None) tells = tells
+  stays low end (Ok (Some p)) tells = tells
+
+  -- what the records between two places tell, whichever they are
+  pub row_told : (fuel low end : ℕ) → end ≤ fuel → low ≤ end → (r : Result (Option ℕ) Misfit) × Tells kind at low end r
+  row_told zero low end in' begins = (Ok None, ([], omega arith, λ d b. b.1))
+  row_told (suc fuel) low end in' begins =
+      ⊎_elim
+      (λ (inside : low < end). ⊎_elim
+      (λ (long : end - 1 - low < (at (end - 1)).span). (Err (record {}), turn_broken kind at low None end end (at (end - 1)) (stays low end) refl inside long (record {})))
+      (λ (fits : (at (end - 1)).span ≤ end - 1 - low).
+      let next = end - 1 - (at (end - 1)).span in
+      let below = row_told fuel low (end - 1 - (at (end - 1)).span) (omega arith) (omega arith) in
+      ⊎_elim
+      (λ (down : (low < end - 1 - (at (end - 1)).span) × (key kind (at (end - 1)) ≤ key kind (at (end - 1 - (at (end - 1)).span - 1)))).
+      (over (Some (end - 1)) below.0, turn_late kind at low None end end (at (end - 1)) (stays low end) refl inside fits down.0 down.1 below.0 below.1))
+      (λ (up : low < end - 1 - (at (end - 1)).span → key kind (at (end - 1 - (at (end - 1)).span - 1)) < key kind (at (end - 1))).
+      (over None below.0, turn_rising kind at low None end end (at (end - 1)) (stays low end) refl inside fits up below.0 below.1))
+      (⊎_elim
+      (λ (more : low < end - 1 - (at (end - 1)).span). ⊎_elim
+      (λ (u : key kind (at (end - 1 - (at (end - 1)).span - 1)) < key kind (at (end - 1))). inr (λ _. u))
+      (λ (d : key kind (at (end - 1)) ≤ key kind (at (end - 1 - (at (end - 1)).span - 1))). inl (more, d))
+      (cases_lt (key kind (at (end - 1 - (at (end - 1)).span - 1))) (key kind (at (end - 1)))))
+      (λ (none : end - 1 - (at (end - 1)).span ≤ low). inr (λ more. absurd (omega arith)))
+      (cases_lt low (end - 1 - (at (end - 1)).span))))
+      (cases_lt (end - 1 - low) (at (end - 1)).span))
+      (λ (done : end ≤ low). (Ok None, ([], omega arith, λ d b. b.1)))
+      (cases_lt low end)

@@ -1,9 +1,9 @@
 -- What one record's own look beneath it tells. Assumes nothing.
-use Rattle.std.specs.Prelude.{ℕ, ◌<◌, min, List, Some, None, Option, Result, Ok, Err}
+use Rattle.std.specs.Prelude.{ℕ, ◌<◌, List, Some, None, Option, Result, Ok, Err}
 use Rattle.document.specs.declared.kind.Kind.{Kind}
 use Rattle.document.specs.declared.record.Record.{Record}
 use Rattle.document.specs.declared.row.Misfit.{Misfit}
-use Rattle.document.specs.Forms.{Row, Behind, Blames}
+use Rattle.document.specs.Forms.{Row, Behind}
 
 -- what the records from low up to end are: no row of siblings, a row that rises, or a row where a sibling, the lowest such, does not rise
 abbrev pub Tells : Kind → (ℕ → Record) → ℕ → ℕ → Result (Option ℕ) Misfit → Type 0
@@ -15,13 +15,3 @@ Tells kind at low end (Ok (Some p)) = (cs : List ℕ) × Row at low cs end × Be
 abbrev pub Least : (ℕ → Type 0) → Option ℕ → Type 0
 Least P None = (p : ℕ) → P p → ⊥
 Least P (Some p) = P p × ((q : ℕ) → q < p → P q → ⊥)
-
--- the lower of two places, where there are any
-abbrev pub lower : Option ℕ → Option ℕ → Option ℕ
-lower None b = b
-lower (Some p) None = Some p
-lower (Some p) (Some q) = Some (min p q)
-
--- what the records below i blame
-abbrev pub Blamed : Kind → (ℕ → Record) → ℕ → ℕ → ℕ → Type 0
-Blamed kind at n i p = (k : ℕ) × (k < i) × Blames kind at n k p

@@ -2,7 +2,7 @@
 ghost use Rattle.std.specs.Prelude.{◌≡◌, ◌<◌, length, Decides};
 ghost use Rattle.document.specs.Bytes.{chunk_at};
 ghost use Rattle.document.specs.Forms.{Shaped, Unasked, Plain, Blames, Faulty};
-ghost use Rattle.document.specs.Walks.{Least, lower};
+ghost use Rattle.document.specs.Walks.{Least};
 
 use crate::kind::Kind;
 use crate::record::{Record, RecordKind};
@@ -54,24 +54,11 @@ fn lowest_blamed(kind: Kind, records: &[[u8; 12]], i: usize) -> Option<usize>
     }
 }
 
-fn lower_of(a: Option<usize>, b: Option<usize>) -> Option<usize>
-    ensures { result ≡ lower a b }
-{
-    match (a, b) {
-        (Some(p), Some(q)) => Some(p.min(q)),
-        (Some(p), None) => Some(p),
-        (None, _) => b,
-    }
-}
-
 // The lowest faulty record of a document.
 pub(crate) fn lowest_faulty(kind: Kind, records: &[[u8; 12]]) -> Option<usize>
     ensures { Least (Faulty kind (chunk_at records.now) (length records.now)) result }
 {
-    // A loop, since `filter_map` tells of what it leaves out only where a closure computes a known function.
-    let mut lowest = None;
-    for i in 0..records.len() {
-        lowest = lower_of(lowest, lowest_blamed(kind, records, i));
-    }
-    lowest
+    (0..records.len())
+        .filter_map(|i| lowest_blamed(kind, records, i))
+        .min()
 }
