@@ -1,12 +1,17 @@
 -- Records of which none is faulty are those of a tree in form. Assumes nothing.
-use Rattle.std.proofs.Common.{◌≡◌, ℕ, zero, suc, ◌+◌, ◌-◌, ◌*◌, ◌<◌, ◌≤◌, ◌⊎◌, List, [], ◌∷◌, ◌++◌, length, get_or, sym, refl, ap, ◌∙◌, subst, inl, inr, ⊎_elim, arith}
+use Rattle.std.proofs.Common.{◌≡◌, ℕ, zero, suc, ◌+◌, ◌-◌, ◌*◌, ◌<◌, ◌≤◌, ◌⊎◌, List, [], ◌∷◌, ◌++◌, length, get_or, sym, refl, ap, ◌∙◌, subst, inl, inr, ⊎_elim, Some, None, Option, Result, Ok, Err, arith}
 use Rattle.std.specs.List.{flat_map}
 use Rattle.std.proofs.lemmas.List.{append_assoc}
 use Rattle.std.proofs.lemmas.Bool.{cases_lt, cases_eq}
-use Rattle.document.specs.declared.record.Kind.{Kind}
-use Rattle.document.specs.declared.record.Kind.TheVariants.{Tree, Refutation}
+use Rattle.document.specs.declared.kind.Kind.{Kind}
+use Rattle.document.specs.declared.kind.Kind.TheVariants.{Tree, Refutation}
 use Rattle.document.specs.declared.record.Record.{Record}
+use Rattle.document.specs.declared.record.RecordKind.{RecordKind}
+use Rattle.document.specs.declared.record.RecordKind.TheVariants.{Leaf, Guess, Count, Split, Other}
 use Rattle.document.specs.Bytes.{record_at, record_bytes}
+use Rattle.document.specs.declared.row.Misfit.{Misfit}
+use Rattle.document.specs.Walks.{Tells}
+use Rattle.document.proofs.Rows.{row_told}
 use Rattle.document.specs.Forms.{Shaped, Unasked, Plain, Formed, Row, Children, Faulty}
 use Rattle.document.specs.Trees.{Forest, none, grown, weight, records_of, Fitting, Lower, Grows, Rooted, Planted}
 use Rattle.document.proofs.Slices.{slice, slice_append, slice_bytes}
@@ -29,15 +34,44 @@ one_of P Q (inr p) (inr q) = inr (λ x. ⊎_elim p q x)
 less : (a b : ℕ) → Decided (a < b)
 less a b = ⊎_elim (λ (h : a < b). inl h) (λ (h : b ≤ a). inr (λ l. omega arith)) (cases_lt a b)
 
+-- the kinds of records in a row
+abbrev number_of_kind : RecordKind → ℕ
+number_of_kind Leaf = 0
+number_of_kind Guess = 1
+number_of_kind Count = 2
+number_of_kind Split = 3
+number_of_kind (Other byte) = suc (suc (suc (suc byte)))
+
+abbrev kind_of_number : ℕ → RecordKind
+kind_of_number zero = Leaf
+kind_of_number (suc zero) = Guess
+kind_of_number (suc (suc zero)) = Count
+kind_of_number (suc (suc (suc zero))) = Split
+kind_of_number (suc (suc (suc (suc byte)))) = Other byte
+
+kind_again : (k : RecordKind) → kind_of_number (number_of_kind k) ≡ k
+kind_again Leaf = refl
+kind_again Guess = refl
+kind_again Count = refl
+kind_again Split = refl
+kind_again (Other byte) = refl
+
+kind_decided : (a b : RecordKind) → Decided (a ≡ b)
+kind_decided a b =
+    ⊎_elim
+    (λ (e : number_of_kind a ≡ number_of_kind b). inl (sym (kind_again a) ∙ ap kind_of_number e ∙ kind_again b))
+    (λ ne. inr (λ e. ne (ap number_of_kind e)))
+    (cases_eq (number_of_kind a) (number_of_kind b))
+
 shape_decided : (kind : Kind) (e : Record) → Decided (Shaped kind e)
-shape_decided Tree e = one_of _ _ (both _ _ (cases_eq e.kind 0) (cases_eq e.span 0)) (both _ _ (cases_eq e.kind 1) (less 0 e.span))
-shape_decided Refutation e = one_of _ _ (both _ _ (cases_eq e.kind 2) (cases_eq e.span 0)) (cases_eq e.kind 3)
+shape_decided Tree e = one_of _ _ (both _ _ (kind_decided e.kind Leaf) (cases_eq e.span 0)) (both _ _ (kind_decided e.kind Guess) (less 0 e.span))
+shape_decided Refutation e = one_of _ _ (both _ _ (kind_decided e.kind Count) (cases_eq e.span 0)) (kind_decided e.kind Split)
 
 unasked_decided : (kind : Kind) (e : Record) → Decided (Unasked kind e)
 unasked_decided Tree e = cases_eq e.answer 0
 unasked_decided Refutation e = both _ _ (cases_eq e.answer 0) (cases_eq e.value 0)
 
-plain_decided : (kind : Kind) (e : Record) (n i : ℕ) → Decided (Plain kind e n i)
+pub plain_decided : (kind : Kind) (e : Record) (n i : ℕ) → Decided (Plain kind e n i)
 plain_decided kind e n i =
     ⊎_elim
     (λ (x : Shaped kind e × (e.gap ≡ 0)). ⊎_elim
@@ -50,37 +84,11 @@ plain_decided kind e n i =
     (λ x. inr (λ plain. x (plain.shape, plain.gap)))
     (both _ _ (shape_decided kind e) (cases_eq e.gap 0))
 
-module _ (at : ℕ → Record) (low : ℕ) where
-  no_row : (end : ℕ) → (end ≡ low → ⊥) → (end < 1) ⊎ (end - 1 < low + (at (end - 1)).span) → (cs : List ℕ) → Row at low cs end → ⊥
-  no_row end ne why [] row = ne row
-  no_row end ne why (c ∷ cs) row =
-      let e : c ≡ end - 1 = omega (arith, row.0) in
-      let f = subst (λ x. low + (at x).span ≤ x) e row.1 in
-      ⊎_elim (λ (x : end < 1). omega (arith, row.0)) (λ (x : end - 1 < low + (at (end - 1)).span). omega arith) why
-
-  shorter : (end : ℕ) → (end ≡ low → ⊥) → (r : (cs : List ℕ) × Row at low cs end) → (ds : List ℕ) × Row at low ds (end - 1 - (at (end - 1)).span)
-  shorter end ne ([], row) = absurd (ne row)
-  shorter end ne (c ∷ cs, row) = let e : c ≡ end - 1 = omega (arith, row.0) in (cs, subst (λ x. Row at low cs (x - (at x).span)) e row.2)
-
-  row_step : (end : ℕ) → (1 ≤ end → low + (at (end - 1)).span ≤ end - 1 → Decided ((cs : List ℕ) × Row at low cs (end - 1 - (at (end - 1)).span))) → Decided ((cs : List ℕ) × Row at low cs end)
-  row_step end rest =
-      ⊎_elim
-      (λ (e : end ≡ low). inl ([], e))
-      (λ (ne : end ≡ low → ⊥). ⊎_elim
-      (λ (x : end < 1). inr (λ r. no_row end ne (inl x) r.0 r.1))
-      (λ (x : 1 ≤ end). ⊎_elim
-      (λ (y : end - 1 < low + (at (end - 1)).span). inr (λ r. no_row end ne (inr y) r.0 r.1))
-      (λ (y : low + (at (end - 1)).span ≤ end - 1). ⊎_elim
-      (λ (r : (cs : List ℕ) × Row at low cs (end - 1 - (at (end - 1)).span)). inl ((end - 1) ∷ r.0, (omega arith, y, r.1)))
-      (λ no'. inr (λ r. no' (shorter end ne r)))
-      (rest x y))
-      (cases_lt (end - 1) (low + (at (end - 1)).span)))
-      (cases_lt end 1))
-      (cases_eq end low)
-
-  row_decided : (fuel end : ℕ) → end ≤ fuel → Decided ((cs : List ℕ) × Row at low cs end)
-  row_decided zero end l = row_step end (λ x y. absurd (omega arith))
-  row_decided (suc fuel) end l = row_step end (λ x y. row_decided fuel (end - 1 - (at (end - 1)).span) (omega arith))
+-- whether records are a row, by what they tell
+row_decided : (at : ℕ → Record) (low end : ℕ) (r : Result (Option ℕ) Misfit) → Tells Tree at low end r → Decided ((cs : List ℕ) × Row at low cs end)
+row_decided at low end (Err misfit) tells = inr (λ r. tells r.0 r.1)
+row_decided at low end (Ok None) tells = inl (tells.0, tells.1)
+row_decided at low end (Ok (Some p)) tells = inl (tells.0, tells.1)
 
 -- a record that is not out of form is in form
 formed_sure : (kind : Kind) (at : ℕ → Record) (n i : ℕ) → ((Formed kind at n i → ⊥) → ⊥) → Formed kind at n i
@@ -89,7 +97,7 @@ formed_sure kind at n i twice =
     (both _ _ (plain_decided kind (at i) n i)
     (⊎_elim
     (λ (long : i < (at i).span). inr (λ r. omega (arith, r.1.0)))
-    (λ (fits : (at i).span ≤ i). ⊎_elim (λ (r : (cs : List ℕ) × Row at (i - (at i).span) cs i). inl (r.0, (fits, r.1))) (λ no'. inr (λ r. no' (r.0, r.1.1))) (row_decided at (i - (at i).span) i i (omega arith)))
+    (λ (fits : (at i).span ≤ i). ⊎_elim (λ (r : (cs : List ℕ) × Row at (i - (at i).span) cs i). inl (r.0, (fits, r.1))) (λ no'. inr (λ r. no' (r.0, r.1.1))) (let told = row_told Tree at i (i - (at i).span) i (omega arith) (omega arith) in row_decided at (i - (at i).span) i told.0 told.1))
     (cases_lt i (at i).span)))
 
 weightless : (f : Forest) → weight f ≡ 0 → f ≡ none

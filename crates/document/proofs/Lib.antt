@@ -11,3 +11,5 @@ pub mod Slices
 pub mod Standing
 pub mod Planting
 pub mod Growing
+pub mod Chunks
+pub mod Lowest

@@ -1,16 +1,16 @@
 // Files: the fields of their trailer, and their parts.
-ghost use Rattle.std.specs.Prelude.{◌≡◌, ◌≤◌, length, MatchResult};
-ghost use Rattle.fault.specs.Faults.{refusal};
+ghost use Rattle.std.specs.Prelude.{◌≡◌, ◌≤◌, length, IfOk, MatchResult};
 ghost use Rattle.fault.specs.declared.Check.TheVariants.{FileTooShort, KindOrEdition, Lengths};
 ghost use Rattle.document.specs.Order.{Passed, Refused};
-ghost use Rattle.document.specs.Checks.{Taken, paper_of};
-ghost use Rattle.document.specs.Files.{trailer_in, Agreed, paper_in, opening_tests};
+ghost use Rattle.document.specs.Checks.{Taken, Checks, paper_of};
+ghost use Rattle.document.specs.Files.{trailer_by, trailer_in, Agreed, paper_in, opening_tests};
 
-use crate::fields::{four_at, two_at};
-use crate::sheet::{FileFault, Sheet, Takes, check_letter, check_title, refused};
-use fault::Check;
+use crate::kind::Kind;
+use crate::sheet::{Contents, FileFault, Sheet, check_letter, check_title};
+use fault::{Check, Place};
 
-#[derive(Clone, Copy)]
+// What the last 24 bytes of a file say, right or wrong.
+#[derive(Clone, Copy, PartialEq, Eq, Debug)]
 pub(crate) struct Trailer {
     letter: u8,
     edition: u8,
@@ -22,38 +22,55 @@ pub(crate) struct Trailer {
     game: u32,
 }
 
-fn trailer_of(file: &[u8]) -> Result<Trailer, FileFault>
-    ensures { MatchResult result (λ t. (36 ≤ length file.now) × (t ≡ trailer_in file.now)) (λ f. (36 ≤ length file.now → ⊥) × (f.fault ≡ refusal FileTooShort)) }
-{
-    if file.len() < 36 {
-        return Err(refused(Check::FileTooShort));
+impl From<[[u8; 4]; 6]> for Trailer {
+    ghost from_gives = { λ words t. t ≡ trailer_by words };
+
+    fn from(words: [[u8; 4]; 6]) -> Trailer {
+        let [
+            [letter, edition, t0, t1],
+            count,
+            first,
+            second,
+            distance,
+            game,
+        ] = words;
+        Trailer {
+            letter,
+            edition,
+            title: u16::from_be_bytes([t0, t1]),
+            count: u32::from_be_bytes(count),
+            first: u32::from_be_bytes(first),
+            second: u32::from_be_bytes(second),
+            distance: u32::from_be_bytes(distance),
+            game: u32::from_be_bytes(game),
+        }
     }
-    let at = file.len() - 24;
-    Ok(Trailer {
-        letter: file[at],
-        edition: file[at + 1],
-        title: two_at(file, at + 2),
-        count: four_at(file, at + 4),
-        first: four_at(file, at + 8),
-        second: four_at(file, at + 12),
-        distance: four_at(file, at + 16),
-        game: four_at(file, at + 20),
-    })
 }
 
-fn check_edition(takes: Takes, trailer: Trailer) -> Result<(), FileFault>
-    ensures { MatchResult result (λ _. Taken takes trailer.letter × (trailer.edition ≡ 1)) (λ f. (Taken takes trailer.letter × (trailer.edition ≡ 1) → ⊥) × (f.fault ≡ refusal KindOrEdition)) }
+fn trailer_of(file: &[u8]) -> Result<Trailer, FileFault>
+    ensures room { Checks result (36 ≤ length file.now) FileTooShort }
+    ensures trailer { IfOk result (λ t. t ≡ trailer_in file.now) }
 {
-    check_letter(takes, trailer.letter)?;
+    let words = file.as_rchunks::<4>().1;
+    match words.last_chunk::<6>() {
+        Some(last) if 36 <= file.len() => Ok(Trailer::from(*last)),
+        _ => Err(Check::FileTooShort.at(Place::Nowhere).into()),
+    }
+}
+
+fn check_edition(only: Option<Kind>, trailer: Trailer) -> Result<(), FileFault>
+    ensures { Checks result (Taken only trailer.letter × (trailer.edition ≡ 1)) KindOrEdition }
+{
+    check_letter(only, trailer.letter)?;
     if trailer.edition == 1 {
         Ok(())
     } else {
-        Err(refused(Check::KindOrEdition))
+        Err(Check::KindOrEdition.at(Place::Nowhere).into())
     }
 }
 
 fn check_agreement(size: usize, trailer: Trailer) -> Result<(), FileFault>
-    ensures { MatchResult result (λ _. Agreed size trailer) (λ f. (Agreed size trailer → ⊥) × (f.fault ≡ refusal Lengths)) }
+    ensures { Checks result (Agreed size trailer) Lengths }
 {
     let count = trailer.count as usize;
     let title = trailer.title as usize;
@@ -65,16 +82,16 @@ fn check_agreement(size: usize, trailer: Trailer) -> Result<(), FileFault>
     {
         Ok(())
     } else {
-        Err(refused(Check::Lengths))
+        Err(Check::Lengths.at(Place::Nowhere).into())
     }
 }
 
 // What a file says, if its trailer and its title are in order; its figures and records are not looked at.
-pub fn opened<'a>(takes: Takes, file: &'a [u8]) -> Result<Sheet<'a>, FileFault>
-    ensures { MatchResult result (λ s. (paper_of s ≡ paper_in file.now) × Passed (opening_tests takes file.now)) (λ f. Refused (opening_tests takes file.now) f.fault) }
+pub fn opened<'a>(only: Option<Kind>, file: &'a [u8]) -> Result<Sheet<'a>, FileFault>
+    ensures { MatchResult result (λ s. (paper_of s ≡ paper_in file.now) × Passed (opening_tests only file.now)) (λ f. Refused (opening_tests only file.now) f.fault) }
 {
     let trailer = trailer_of(file)?;
-    check_edition(takes, trailer)?;
+    check_edition(only, trailer)?;
     check_agreement(file.len(), trailer)?;
     let start = trailer.title as usize;
     let end = start + 12 * trailer.count as usize;
@@ -82,10 +99,12 @@ pub fn opened<'a>(takes: Takes, file: &'a [u8]) -> Result<Sheet<'a>, FileFault>
     check_title(title)?;
     Ok(Sheet {
         letter: trailer.letter,
-        title,
-        records: &file[start..end],
-        first: trailer.first,
-        second: trailer.second,
-        game: trailer.game,
+        contents: Contents {
+            title,
+            records: &file[start..end],
+            first: trailer.first,
+            second: trailer.second,
+            game: trailer.game,
+        },
     })
 }

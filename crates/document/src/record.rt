@@ -1,38 +1,94 @@
 // The records of a document.
-ghost use Rattle.std.specs.Prelude.{◌≡◌, ◌+◌, ◌*◌, ◌/◌, ◌<◌, ◌≤◌, length, MatchOption};
-ghost use Rattle.document.specs.Bytes.{record_at};
+ghost use Rattle.std.specs.Prelude.{◌≡◌, ◌/◌, ◌<◌, ◌≤◌, length, MatchOption};
+ghost use Rattle.document.specs.Bytes.{kind_in, kind_byte, record_at, record_bytes};
 ghost use Rattle.document.specs.Forms.{key};
 
-use crate::fields::{four_at, two_at};
+use crate::kind::Kind;
 
-// What a document is: a tree of guesses, or a refutation.
-#[derive(Clone, Copy)]
-pub enum Kind {
-    Tree,
-    Refutation,
+// What a record is: a tree has leaves and guesses, a refutation counts and splits. Any other byte is kept.
+#[derive(Clone, Copy, PartialEq, Eq, Debug)]
+pub enum RecordKind {
+    Leaf,
+    Guess,
+    Count,
+    Split,
+    Other(u8),
+}
+
+impl From<u8> for RecordKind {
+    ghost from_gives = { λ byte kind. kind ≡ kind_in byte };
+
+    fn from(byte: u8) -> RecordKind {
+        match byte {
+            0 => RecordKind::Leaf,
+            1 => RecordKind::Guess,
+            2 => RecordKind::Count,
+            3 => RecordKind::Split,
+            _ => RecordKind::Other(byte),
+        }
+    }
+}
+
+impl From<RecordKind> for u8 {
+    ghost from_gives = { λ kind byte. byte ≡ kind_byte kind };
+
+    fn from(kind: RecordKind) -> u8 {
+        match kind {
+            RecordKind::Leaf => 0,
+            RecordKind::Guess => 1,
+            RecordKind::Count => 2,
+            RecordKind::Split => 3,
+            RecordKind::Other(byte) => byte,
+        }
+    }
 }
 
 // One record as it stands in a file; in form, its gap is zero.
-#[derive(Clone, Copy)]
+#[derive(Clone, Copy, PartialEq, Eq, Debug)]
 pub struct Record {
-    pub kind: u8,
+    pub kind: RecordKind,
     pub answer: u8,
     pub gap: u16,
     pub value: u32,
     pub span: u32,
 }
 
-pub(crate) fn record_at(records: &[u8], i: usize) -> Record
-    requires { 12 * i + 12 ≤ length records.now }
-    ensures { result ≡ record_at records.now i }
-{
-    let at = 12 * i;
-    Record {
-        kind: records[at],
-        answer: records[at + 1],
-        gap: two_at(records, at + 2),
-        value: four_at(records, at + 4),
-        span: four_at(records, at + 8),
+impl From<[u8; 12]> for Record {
+    ghost from_gives = { λ bytes item. item ≡ record_at bytes 0 };
+
+    fn from(bytes: [u8; 12]) -> Record {
+        let [kind, answer, g0, g1, v0, v1, v2, v3, s0, s1, s2, s3] = bytes;
+        Record {
+            kind: kind.into(),
+            answer,
+            gap: u16::from_be_bytes([g0, g1]),
+            value: u32::from_be_bytes([v0, v1, v2, v3]),
+            span: u32::from_be_bytes([s0, s1, s2, s3]),
+        }
+    }
+}
+
+impl From<Record> for [u8; 12] {
+    ghost from_gives = { λ item bytes. bytes ≡ record_bytes item };
+
+    fn from(item: Record) -> [u8; 12] {
+        let [g0, g1] = item.gap.to_be_bytes();
+        let [v0, v1, v2, v3] = item.value.to_be_bytes();
+        let [s0, s1, s2, s3] = item.span.to_be_bytes();
+        [
+            item.kind.into(),
+            item.answer,
+            g0,
+            g1,
+            v0,
+            v1,
+            v2,
+            v3,
+            s0,
+            s1,
+            s2,
+            s3,
+        ]
     }
 }
 
@@ -50,9 +106,6 @@ pub(crate) fn key_of(kind: Kind, item: Record) -> u32
 pub fn record_in(records: &[u8], i: usize) -> Option<Record>
     ensures { MatchOption result (length records.now / 12 ≤ i) (λ e. (i < length records.now / 12) × (e ≡ record_at records.now i)) }
 {
-    if i < records.len() / 12 {
-        Some(record_at(records, i))
-    } else {
-        None
-    }
+    let bytes = records.as_chunks::<12>().0.get(i)?;
+    Some(Record::from(*bytes))
 }

@@ -1,7 +1,6 @@
 // Documents written into a buffer of the caller's.
 ghost use Rattle.std.specs.Prelude.{◌≡◌, ◌+◌, ◌/◌, ◌<◌, ◌≤◌, ◌++◌, length, take, drop, MatchResult};
-ghost use Rattle.fault.specs.Faults.{refusal};
-ghost use Rattle.fault.specs.declared.Check.TheVariants.{OutputTooShort};
+ghost use Rattle.std.specs.List.{flat_map};
 ghost use Rattle.document.specs.Bytes.{trailer, encode, size};
 ghost use Rattle.document.specs.Order.{Refused};
 ghost use Rattle.document.specs.Checks.{paper_of, Sized};
@@ -10,58 +9,53 @@ ghost use Rattle.writer.specs.Writing.{write_tests, Writes};
 use document::{FileFault, Sheet, judged};
 use fault::{Check, Place};
 
-fn trailer_bytes(sheet: Sheet<'_>) -> [u8; 24]
-    requires { Sized sheet.title.now sheet.records.now }
-    ensures bytes { result ≡ trailer sheet.entry.letter (length sheet.entry.title.now) (length sheet.entry.records.now / 12) sheet.entry.first sheet.entry.second sheet.entry.game }
-    ensures fits { sheet.entry.game < 4294967296 }
-{
-    let title = (sheet.title.len() as u16).to_be_bytes();
-    let records = (sheet.records.len() / 12) as u32;
-    let count = records.to_be_bytes();
-    let first = sheet.first.to_be_bytes();
-    let second = sheet.second.to_be_bytes();
-    let distance = (12 * records).to_be_bytes();
-    let game = sheet.game.to_be_bytes();
-    [
-        sheet.letter,
-        1,
-        title[0],
-        title[1],
-        count[0],
-        count[1],
-        count[2],
-        count[3],
-        first[0],
-        first[1],
-        first[2],
-        first[3],
-        second[0],
-        second[1],
-        second[2],
-        second[3],
-        distance[0],
-        distance[1],
-        distance[2],
-        distance[3],
-        game[0],
-        game[1],
-        game[2],
-        game[3],
-    ]
+// A sheet whose lengths are in order, so that its document has a size and a trailer.
+#[derive(Clone, Copy)]
+struct Measured<'a> {
+    sheet: Sheet<'a>,
+    ghost sized: { Sized sheet.contents.title.now sheet.contents.records.now },
 }
 
-// Answers how many bytes there are to write.
-fn check_room(sheet: Sheet<'_>, room: usize) -> Result<usize, FileFault>
-    requires { Sized sheet.title.now sheet.records.now }
-    ensures { MatchResult result (λ n. (n ≡ size (paper_of sheet.entry)) × (size (paper_of sheet.entry) ≤ room)) (λ f. (size (paper_of sheet.entry) ≤ room → ⊥) × (f.fault ≡ refusal OutputTooShort)) }
-{
-    let bytes = sheet.title.len() + sheet.records.len() + 24;
-    if bytes <= room {
-        Ok(bytes)
-    } else {
-        Err(FileFault {
-            fault: Check::OutputTooShort.at(Place::Nowhere),
-        })
+impl<'a> Measured<'a> {
+    // How many bytes there are to write.
+    fn size(self) -> usize
+        ensures { result ≡ size (paper_of self.entry.sheet) }
+    {
+        let contents = self.sheet.contents;
+        contents.title.len() + contents.records.len() + 24
+    }
+
+    // The trailer, in groups of four bytes.
+    fn trailer(self) -> [[u8; 4]; 6]
+        ensures bytes { flat_map (λ word. word) result ≡ trailer self.entry.sheet.letter (length self.entry.sheet.contents.title.now) (length self.entry.sheet.contents.records.now / 12) self.entry.sheet.contents.first self.entry.sheet.contents.second self.entry.sheet.contents.game }
+        ensures fits { self.entry.sheet.contents.game < 4294967296 }
+    {
+        let contents = self.sheet.contents;
+        let [t0, t1] = (contents.title.len() as u16).to_be_bytes();
+        let count = (contents.records.len() / 12) as u32;
+        [
+            [self.sheet.letter, 1, t0, t1],
+            count.to_be_bytes(),
+            contents.first.to_be_bytes(),
+            contents.second.to_be_bytes(),
+            (12 * count).to_be_bytes(),
+            contents.game.to_be_bytes(),
+        ]
+    }
+
+    // Puts the document at the front of a buffer.
+    fn put(self, out: &mut [u8])
+        requires { size (paper_of self.sheet) ≤ length out.old }
+        ensures bytes { out.new ≡ encode (paper_of self.entry.sheet) ++ drop (size (paper_of self.entry.sheet)) out.old }
+        ensures fits { self.entry.sheet.contents.game < 4294967296 }
+    {
+        let contents = self.sheet.contents;
+        let start = contents.title.len();
+        let end = start + contents.records.len();
+        let last = self.trailer();
+        put_part(out, 0, contents.title);
+        put_part(out, start, contents.records);
+        put_part(out, end, last.as_flattened());
     }
 }
 
@@ -74,26 +68,17 @@ fn put_part(out: &mut [u8], at: usize, part: &[u8])
     out[at..end].copy_from_slice(part);
 }
 
-fn put_document(sheet: Sheet<'_>, out: &mut [u8])
-    requires { (Sized sheet.title.now sheet.records.now) × (size (paper_of sheet) ≤ length out.old) }
-    ensures bytes { out.new ≡ encode (paper_of sheet.entry) ++ drop (size (paper_of sheet.entry)) out.old }
-    ensures fits { sheet.entry.game < 4294967296 }
-{
-    let start = sheet.title.len();
-    let end = start + sheet.records.len();
-    let last = trailer_bytes(sheet);
-    put_part(out, 0, sheet.title);
-    put_part(out, start, sheet.records);
-    put_part(out, end, &last);
-}
-
 // Writes the document that a sheet says at the front of a buffer, and answers how many bytes it has.
 // Bytes past them stay as they were, and a refusal leaves the whole buffer as it was.
 pub fn write(sheet: Sheet<'_>, out: &mut [u8]) -> Result<usize, FileFault>
     ensures { MatchResult result (λ n. Writes (paper_of sheet.entry) n out.old out.new) (λ f. (out.new ≡ out.old) × Refused (write_tests (paper_of sheet.entry) (length out.old)) f.fault) }
 {
     judged(sheet)?;
-    let bytes = check_room(sheet, out.len())?;
-    put_document(sheet, out);
+    let measured = Measured { sheet };
+    let bytes = measured.size();
+    if out.len() < bytes {
+        return Err(Check::OutputTooShort.at(Place::Nowhere).into());
+    }
+    measured.put(out);
     Ok(bytes)
 }

@@ -1,15 +1,17 @@
-use Rattle.std.proofs.Common.{◌≡◌, ◌+◌, sym, subst, arith}
-use Rattle.document.specs.Bytes.{record_at}
-use Rattle.document.specs.Walks.{Least, Blamed}
-use Rattle.document.proofs.Blames.{blamed_more}
+use Rattle.std.proofs.Common.{length, sym, ◌∙◌, rules, arith}
+use Rattle.std.proofs.lemmas.Iterator.Adapters.{option_map_id}
+use Rattle.document.specs.Forms.{Blames}
+use Rattle.std.proofs.lemmas.Iterator.{YieldsList-from_range}
+use Rattle.std.proofs.lemmas.Iterator.Consumers.{YieldsList-from_filter_map, min_from_yields_List}
+use Rattle.document.specs.Bytes.{chunk_at}
+use Rattle.document.proofs.Lowest.{least_same, blamed, lowest}
 use Rattle.document.proofs.form.lowest_faulty.Goals as goal
-
-pub loop-i-preserved : goal.loop-i-preserved
-loop-i-preserved c =
-    subst (Least (Blamed c.args.kind (record_at c.args.records.now) c.args.count (c.loop-i.i + 1))) (sym c.lower_of-lowest.ensures)
-    (blamed_more c.args.kind (record_at c.args.records.now) c.args.count c.loop-i.i _ _ c.loop-i.invariant c.lowest_blamed.ensures)
 
 pub returns : goal.returns
 returns c =
-    let done : c.loop-i.i ≡ c.args.count = omega (arith, c.loop-i.auto.i-end) in
-    subst (λ i. Least (Blamed c.args.kind (record_at c.args.records.now) c.args.count i) c.loop-i.lowest) done c.loop-i.invariant
+    let at = chunk_at c.args.records.now in
+    let n = length c.args.records.now in
+    lowest c.args.kind at n _
+    (sym (option_map_id _) ∙ min_from_yields_List _ _ c.min.ensures.ran
+    (YieldsList-from_filter_map _ (λ i. (blamed c.args.kind at n i).0) (YieldsList-from_range 0 n n c.filter_map.ensures.source (omega arith))
+    c.filter_map.ensures.closure (λ x r q k. (search rules, least_same (Blames c.args.kind at n x) r (blamed c.args.kind at n x).0 (search rules) (blamed c.args.kind at n x).1))))

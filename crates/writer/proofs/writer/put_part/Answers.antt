@@ -1,6 +1,10 @@
-use Rattle.std.proofs.Common.{arith}
-use Rattle.writer.proofs.Written.{put_part}
+use Rattle.std.proofs.Common.{length, refl, ◌∙◌, arith}
+use Rattle.std.proofs.lemmas.List.Edits.{paste_all}
+use Rattle.std.proofs.lemmas.Slice.{put_mid-paste}
 use Rattle.writer.proofs.writer.put_part.Goals as goal
 
 pub returns : goal.returns
-returns c = put_part c.args.at _ c.args.out.now c.args.part.now _ c.copy_from_slice.ensures.after (omega arith)
+returns c =
+    let part = c.args.part.now in
+    put_mid-paste c.args.at _ c.args.out.now _ part (length part) c.copy_from_slice.ensures.after (omega arith) refl
+    ∙ paste_all c.args.out.now c.args.at part (length part) refl

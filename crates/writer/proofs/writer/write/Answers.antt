@@ -1,4 +1,4 @@
-use Rattle.std.proofs.Common.{◌≡◌, ◌++◌, drop, sym, subst}
+use Rattle.std.proofs.Common.{◌≡◌, ◌++◌, drop, sym, subst, arith}
 use Rattle.document.specs.Bytes.{encode}
 use Rattle.document.specs.Checks.{paper_of}
 use Rattle.writer.proofs.Written.{written_again}
@@ -6,7 +6,8 @@ use Rattle.writer.proofs.writer.write.Goals as goal
 
 pub returns : goal.returns
 returns c =
-    let told = c.in_ok-bytes.ensures in
-    written_again (paper_of c.args.sheet) _ _ _ (λ i. (c.type_inv.out i).fits) c.put_document.ensures.fits told.0 told.1
-    (subst (λ n. c.put_document.new.out ≡ encode (paper_of c.args.sheet) ++ drop n c.args.out.now) (sym told.0) c.put_document.ensures.bytes)
+    let paper = paper_of c.args.sheet in
+    let size = c.size-bytes.ensures in
+    written_again paper _ _ _ (λ i. (c.type_inv.out i).fits) c.put.ensures.fits size (omega (arith, size))
+    (subst (λ n. c.put.new.out ≡ encode paper ++ drop n c.args.out.now) (sym size) c.put.ensures.bytes)
     c.in_ok-judged.ensures.1
