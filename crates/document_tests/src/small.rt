@@ -2,7 +2,7 @@
 use crate::lines::{show_fault, show_read};
 use crate::samples::{small_refutation, small_tree};
 use document::{read_refutation, read_tree};
-use title::{Source, title_to_show};
+use title::title_to_show;
 use writer::rewrite;
 
 fn show_broken(rt: &HostRuntime, file: &[u8], by: u8) -> anyhow::Result<()> {
@@ -42,14 +42,11 @@ fn show_letters(rt: &HostRuntime, file: &[u8]) -> anyhow::Result<()> {
 
 fn show_title(rt: &HostRuntime, house: &[u8], supplier: &[u8]) -> anyhow::Result<()> {
     let shown = title_to_show(house, supplier);
-    let whose = match shown.source {
-        Source::House => "house",
-        Source::Supplier => "supplier",
-    };
+    let source = shown.source;
     let title = shown.title;
     let start = shown.start;
     let end = shown.end;
-    println!(rt; "{whose} {start}..{end} {title:?}")?;
+    println!(rt; "{source} {start}..{end} {title:?}")?;
     Ok(())
 }
 
