@@ -1,6 +1,5 @@
 // What reading a file answers, as a line of text.
 use document::{Contents, Document, FileFault, read};
-use fault::Place;
 
 fn show_contents(rt: &impl Print, kind: &str, contents: Contents<'_>) -> anyhow::Result<()> {
     let title = contents.title.len();
@@ -17,11 +16,8 @@ fn show_contents(rt: &impl Print, kind: &str, contents: Contents<'_>) -> anyhow:
 pub fn show_fault(rt: &impl Print, refused: FileFault) -> anyhow::Result<()> {
     let number = refused.fault.number;
     let stage = refused.fault.stage;
-    match refused.fault.place {
-        Place::Record(place) => println!(rt; "no {number} {stage:?} r{place}")?,
-        Place::Code(place) => println!(rt; "no {number} {stage:?} c{place}")?,
-        Place::Nowhere => println!(rt; "no {number} {stage:?} -")?,
-    }
+    let place = refused.fault.place;
+    println!(rt; "no {number} {stage:?} {place}")?;
     Ok(())
 }
 
