@@ -1,6 +1,6 @@
 // Documents at their limits, and one past them.
 use crate::lines::{show_fault, show_read};
-use crate::samples::{chain, put_trailer, row};
+use crate::records::{chain, put_trailer, row};
 use document::Sheet;
 use writer::write;
 

@@ -1,20 +1,5 @@
-// Documents to try reading and writing on: two small ones as bytes, and records of large ones.
+// Records of large documents, and a trailer for them.
 use std::alloc::{AllocError, Global};
-
-// One peg and two colours, game 7: ask colour 0, then colour 1.
-pub fn small_tree() -> &'static [u8] {
-    b"\x00\x01\x00\x00\x00\x00\x00\x01\x00\x00\x00\x00\
-      \x01\x00\x00\x00\x00\x00\x00\x01\x00\x00\x00\x01\
-      \x00\x01\x00\x00\x00\x00\x00\x00\x00\x00\x00\x00\
-      \x01\x00\x00\x00\x00\x00\x00\x00\x00\x00\x00\x03\
-      \x54\x01\x00\x00\x00\x00\x00\x04\x00\x00\x00\x02\x00\x00\x00\x03\x00\x00\x00\x30\x00\x00\x00\x07"
-}
-
-// For the same game: two codes are more than one guess has places for.
-pub fn small_refutation() -> &'static [u8] {
-    b"\x02\x00\x00\x00\x00\x00\x00\x00\x00\x00\x00\x00\
-      \x52\x01\x00\x00\x00\x00\x00\x01\x00\x00\x00\x01\x00\x00\x00\x00\x00\x00\x00\x0c\x00\x00\x00\x07"
-}
 
 fn put_record(records: &mut Vec<u8>, kind: u8, value: u32, span: u32) -> Result<(), AllocError> {
     records.extend_from_slice(&[kind, 0, 0, 0])?;
