@@ -1,13 +1,11 @@
 -- The bytes of a paper in order, read again. Assumes nothing.
-use Rattle.std.proofs.Common.{◌≡◌, ℕ, ◌+◌, ◌-◌, ◌*◌, ◌/◌, ◌%◌, ◌<◌, ◌≤◌, ◌⊎◌, List, ◌++◌, length, get_or, take, sym, refl, ap, ◌∙◌, subst, inl, inr, ⊎_elim, arith}
+use Rattle.std.proofs.Common.{◌≡◌, ℕ, ◌+◌, ◌-◌, ◌*◌, ◌/◌, ◌%◌, ◌<◌, ◌≤◌, List, ◌++◌, length, get_or, take, sym, refl, ap, ◌∙◌, subst, inl, inr, ⊎_elim, arith, Option, Some, None}
 use Rattle.std.proofs.lemmas.List.{append_assoc, take_at, drop_at, length-append, get_or-append-add, get_or_append_left, get_or_past}
 use Rattle.std.proofs.lemmas.Bool.{cases_lt}
 use Rattle.document.specs.declared.file.Trailer.{Trailer}
 use Rattle.fault.specs.declared.Fault.{Fault}
-use Rattle.document.specs.declared.sheet.Takes.{Takes}
-use Rattle.document.specs.declared.sheet.Takes.TheVariants.{Either, OnlyTrees, OnlyRefutations}
-use Rattle.document.specs.declared.record.Kind.{Kind}
-use Rattle.document.specs.declared.record.Kind.TheVariants.{Tree, Refutation}
+use Rattle.document.specs.declared.kind.Kind.{Kind}
+use Rattle.document.specs.declared.kind.Kind.TheVariants.{Tree, Refutation}
 use Rattle.document.specs.Bytes.{four_at, record_at, trailer, Paper, encode, size}
 use Rattle.document.specs.Forms.{Faulty}
 use Rattle.document.specs.Order.{Passed, Refused}
@@ -19,10 +17,10 @@ use Rattle.document.proofs.Growing.{tree_grown}
 use Rattle.document.proofs.Orders.{not_both}
 use Rattle.document.proofs.Planting.{planted_length, planted_clear}
 
-pub taken_either : (takes : Takes) (letter : ℕ) → Taken takes letter → Taken Either letter
-taken_either Either letter h = h
-taken_either OnlyTrees letter h = inl h
-taken_either OnlyRefutations letter h = inr h
+pub taken_either : (only : Option Kind) (letter : ℕ) → Taken only letter → Taken None letter
+taken_either None letter h = h
+taken_either (Some Tree) letter h = inl h
+taken_either (Some Refutation) letter h = inr h
 
 pub size_is : (p : Paper) → length (encode p) ≡ size p
 size_is p = simp length-append (omega arith)
@@ -89,12 +87,12 @@ module _ (p : Paper) (sized : Sized p.title p.records) (first : p.first < 429496
       (record { short = sized.short; some = sized.some; few = sized.few; back = refl; all = omega (arith, size_is p, sized.even) })
 
   -- the bytes of a paper that passes its checks pass those of a file
-  pub again_passed : (takes : Takes) → Taken takes p.letter → Passed (paper_tests p) → Passed (file_tests takes (encode p))
-  again_passed takes taken (letter, (lengths, (title, (figures, (records, end))))) =
+  pub again_passed : (only : Option Kind) → Taken only p.letter → Passed (paper_tests p) → Passed (file_tests only (encode p))
+  again_passed only taken (letter, (lengths, (title, (figures, (records, end))))) =
       let t : said p ≡ trailer_in (encode p) = sym trailer_again in
       let q : p ≡ paper_in (encode p) = sym paper_again in
       let long : 36 ≤ length (encode p) = omega (arith, size_is p, sized.even, sized.some) in
-      let edition = subst (λ (u : Trailer). Taken takes u.letter × (u.edition ≡ 1)) t (taken, refl) in
+      let edition = subst (λ (u : Trailer). Taken only u.letter × (u.edition ≡ 1)) t (taken, refl) in
       let printable = subst (λ (u : Paper). Printable u.title) q title in
       let ranged = subst (λ (u : Trailer). Ranged (kind_of u.letter) u.first u.second) t figures in
       let counted = subst (λ (u : Trailer). (k : ℕ) → Faulty (kind_of p.letter) (record_at p.records) u.count k → ⊥) t records in
@@ -106,7 +104,7 @@ in_range Tree first second (a, b, c, d) = (omega arith, omega arith)
 in_range Refutation first second (a, b) = (omega arith, omega arith)
 
 -- a document passes the checks of its paper, and of its file, and says what the file says
-module _ (takes : Takes) (bs : List ℕ) (p : Paper) (stands : Stands takes bs p) where
+module _ (only : Option Kind) (bs : List ℕ) (p : Paper) (stands : Stands only bs p) where
   stands_sized : Sized p.title p.records
   stands_sized =
       let long = planted_length (kind_of p.letter) p.records stands.planted in
@@ -116,21 +114,21 @@ module _ (takes : Takes) (bs : List ℕ) (p : Paper) (stands : Stands takes bs p
   stands_paper : Passed (paper_tests p)
   stands_paper =
       let long = planted_length (kind_of p.letter) p.records stands.planted in
-      (taken_either takes p.letter stands.letter, (stands_sized, (stands.printable, (stands.ranged, (planted_clear (kind_of p.letter) p.records stands.planted (length p.records / 12) (omega arith), tt)))))
+      (taken_either only p.letter stands.letter, (stands_sized, (stands.printable, (stands.ranged, (planted_clear (kind_of p.letter) p.records stands.planted (length p.records / 12) (omega arith), tt)))))
 
   ranges : (p.first < 4294967296) × (p.second < 4294967296)
   ranges = in_range (kind_of p.letter) p.first p.second stands.ranged
 
-  pub stands_passed : Passed (file_tests takes bs)
+  pub stands_passed : Passed (file_tests only bs)
   stands_passed =
-      subst (λ b. Passed (file_tests takes b)) (sym stands.same)
-      (again_passed p stands_sized ranges.0 ranges.1 stands.game takes stands.letter stands_paper)
+      subst (λ b. Passed (file_tests only b)) (sym stands.same)
+      (again_passed p stands_sized ranges.0 ranges.1 stands.game only stands.letter stands_paper)
 
   pub stands_says : p ≡ paper_in bs
   stands_says = sym (paper_again p stands_sized ranges.0 ranges.1 stands.game) ∙ ap paper_in (sym stands.same)
 
 -- bytes of a paper that passes its checks are a document
-module _ (takes : Takes) (bs : List ℕ) (bytes : (i : ℕ) → get_or bs i 0 < 256) (p : Paper) (same : bs ≡ encode p) (taken : Taken takes p.letter) (game : p.game < 4294967296) (passed : Passed (paper_tests p)) where
+module _ (only : Option Kind) (bs : List ℕ) (bytes : (i : ℕ) → get_or bs i 0 < 256) (p : Paper) (same : bs ≡ encode p) (taken : Taken only p.letter) (game : p.game < 4294967296) (passed : Passed (paper_tests p)) where
   record_byte : (i : ℕ) → get_or p.records i 0 < 256
   record_byte i =
       ⊎_elim
@@ -140,7 +138,7 @@ module _ (takes : Takes) (bs : List ℕ) (bytes : (i : ℕ) → get_or bs i 0 < 
       (λ (l : length p.records ≤ i). subst (λ x. x < 256) (sym (get_or_past p.records i 0 l)) (omega arith))
       (cases_lt i (length p.records))
 
-  pub stands_so : Stands takes bs p
+  pub stands_so : Stands only bs p
   stands_so =
       let sized = passed.1.0 in
       record {
@@ -154,5 +152,5 @@ module _ (takes : Takes) (bs : List ℕ) (bytes : (i : ℕ) → get_or bs i 0 < 
       }
 
 -- a file's bytes that stand for no paper are refused, and others are not
-pub rejected : (takes : Takes) (bs : List ℕ) (f : Fault) → Refused (file_tests takes bs) f → Rejects takes bs f
-rejected takes bs f refused = record { first = refused; order = (omega arith, (omega arith, (omega arith, (omega arith, (omega arith, (omega arith, tt)))))); none = λ p stands. not_both (file_tests takes bs) f (stands_passed takes bs p stands) refused }
+pub rejected : (only : Option Kind) (bs : List ℕ) (f : Fault) → Refused (file_tests only bs) f → Rejects only bs f
+rejected only bs f refused = record { first = refused; order = (omega arith, (omega arith, (omega arith, (omega arith, (omega arith, (omega arith, tt)))))); none = λ p stands. not_both (file_tests only bs) f (stands_passed only bs p stands) refused }

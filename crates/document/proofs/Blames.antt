@@ -1,10 +1,10 @@
 -- The lowest of the records that are blamed. Assumes nothing.
-use Rattle.std.proofs.Common.{◌≡◌, ℕ, ◌+◌, ◌-◌, ◌<◌, ◌≤◌, min, ◌⊎◌, List, Some, None, Option, sym, refl, subst, inl, inr, ⊎_elim, arith}
+use Rattle.std.proofs.Common.{◌≡◌, ℕ, ◌+◌, ◌-◌, ◌<◌, ◌≤◌, min, ◌⊎◌, List, Some, None, Option, Ok, Err, sym, refl, subst, inl, inr, ⊎_elim, arith}
 use Rattle.std.proofs.lemmas.Bool.{cases_lt}
-use Rattle.document.specs.declared.record.Kind.{Kind}
+use Rattle.document.specs.declared.kind.Kind.{Kind}
 use Rattle.document.specs.declared.record.Record.{Record}
-use Rattle.document.specs.declared.row.Siblings.TheVariants.{Broken, Rising, Late}
-use Rattle.document.specs.Forms.{Children, Behind, Plain, Blames, Faulty}
+use Rattle.document.specs.declared.row.Misfit.{Misfit}
+use Rattle.document.specs.Forms.{Row, Children, Behind, Plain, Blames, Faulty}
 use Rattle.document.specs.Walks.{Tells, Least, lower, Blamed}
 use Rattle.document.proofs.Rows.{beside_below, row_same}
 
@@ -47,28 +47,40 @@ module _ (kind : Kind) (at : ℕ → Record) (n : ℕ) where
     pub blames_too_far : i < (at i).span → Least (Blames kind at n i) (Some i)
     blames_too_far long = blames_unused (λ cs children. omega (arith, children.0))
 
-    module _ (fits : (at i).span ≤ i) where
-      pub blames_broken : Tells kind at (i - (at i).span) i Broken → Least (Blames kind at n i) (Some i)
-      blames_broken tells = blames_unused (λ cs children. tells cs children.1)
+    -- the record, as it was read
+    module _ (item : Record) (is : item ≡ at i) (fits : item.span ≤ i) where
+      row : (cs : List ℕ) → Children at i cs → Row at (i - item.span) cs i
+      row cs children = subst (λ (e : Record). Row at (i - e.span) cs i) (sym is) children.1
+
+      used : (cs : List ℕ) → Row at (i - item.span) cs i → Children at i cs
+      used cs siblings = subst (λ (e : Record). (e.span ≤ i) × Row at (i - e.span) cs i) is (fits, siblings)
+
+      pub blames_broken : (misfit : Misfit) → Tells kind at (i - item.span) i (Err misfit) → Least (Blames kind at n i) (Some i)
+      blames_broken misfit tells = blames_unused (λ cs children. tells cs (row cs children))
 
       -- where the children rise, none of them is blamed
-      free : Tells kind at (i - (at i).span) i Rising → (q : ℕ) (cs : List ℕ) → Children at i cs → Behind kind at cs q → ⊥
+      free : Tells kind at (i - item.span) i (Ok None) → (q : ℕ) (cs : List ℕ) → Children at i cs → Behind kind at cs q → ⊥
       free tells q cs children behind =
-          let same = row_same kind at (i - (at i).span) cs tells.0 i children.1 tells.1 in
+          let same = row_same kind at (i - item.span) cs tells.0 i (row cs children) tells.1 in
           tells.2 q (subst (λ ds. Behind kind at ds q) same behind)
 
-      pub blames_none : Tells kind at (i - (at i).span) i Rising → Plain kind (at i) n i → Least (Blames kind at n i) None
-      blames_none tells plain = λ p b. ⊎_elim (λ own. own.1 (plain, (tells.0, (fits, tells.1)))) (λ late. free tells p late.0 late.1 late.2) b
+      pub blames_none : Tells kind at (i - item.span) i (Ok None) → Plain kind item n i → Least (Blames kind at n i) None
+      blames_none tells plain = λ p b. ⊎_elim
+          (λ own. own.1 (subst (λ e. Plain kind e n i) is plain, (tells.0, used tells.0 tells.1)))
+          (λ late. free tells p late.0 late.1 late.2) b
 
-      pub blames_itself : Tells kind at (i - (at i).span) i Rising → (Plain kind (at i) n i → ⊥) → Least (Blames kind at n i) (Some i)
-      blames_itself tells plain = (inl (refl, λ formed. plain formed.0), λ q l b. ⊎_elim (λ own. omega (arith, own.0)) (λ late. free tells q late.0 late.1 late.2) b)
+      pub blames_itself : Tells kind at (i - item.span) i (Ok None) → (Plain kind item n i → ⊥) → Least (Blames kind at n i) (Some i)
+      blames_itself tells plain = (
+        inl (refl, λ formed. plain (subst (λ e. Plain kind e n i) (sym is) formed.0)),
+        λ q l b. ⊎_elim (λ own. omega (arith, own.0)) (λ late. free tells q late.0 late.1 late.2) b,
+      )
 
-      pub blames_late : (p : ℕ) → Tells kind at (i - (at i).span) i (Late p) → Least (Blames kind at n i) (Some p)
+      pub blames_late : (p : ℕ) → Tells kind at (i - item.span) i (Ok (Some p)) → Least (Blames kind at n i) (Some p)
       blames_late p tells = (
-        inr (tells.0, (fits, tells.1), tells.2),
+        inr (tells.0, used tells.0 tells.1, tells.2),
         λ q l b. ⊎_elim
-            (λ own. omega (arith, own.0, below p tells.0 (fits, tells.1) tells.2))
-            (λ late. let same = row_same kind at (i - (at i).span) late.0 tells.0 i late.1.1 tells.1 in tells.3 q l (subst (λ ds. Behind kind at ds q) same late.2))
+            (λ own. omega (arith, own.0, below p tells.0 (used tells.0 tells.1) tells.2))
+            (λ late. let same = row_same kind at (i - item.span) late.0 tells.0 i (row late.0 late.1) tells.1 in tells.3 q l (subst (λ ds. Behind kind at ds q) same late.2))
             b,
       )
 

@@ -3,8 +3,8 @@ use Rattle.std.proofs.Common.{◌≡◌, ℕ, zero, suc, ◌+◌, ◌-◌, ◌*�
 use Rattle.std.specs.List.{flat_map}
 use Rattle.std.proofs.lemmas.List.{append_assoc}
 use Rattle.std.proofs.lemmas.Bool.{cases_lt, cases_eq}
-use Rattle.document.specs.declared.record.Kind.{Kind}
-use Rattle.document.specs.declared.record.Kind.TheVariants.{Tree, Refutation}
+use Rattle.document.specs.declared.kind.Kind.{Kind}
+use Rattle.document.specs.declared.kind.Kind.TheVariants.{Tree, Refutation}
 use Rattle.document.specs.declared.record.Record.{Record}
 use Rattle.document.specs.Bytes.{record_at, record_bytes}
 use Rattle.document.specs.Forms.{Shaped, Unasked, Plain, Formed, Row, Children, Faulty}

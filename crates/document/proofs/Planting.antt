@@ -1,7 +1,7 @@
 -- Bytes that are the records of a tree in form have no faulty record. Assumes nothing.
 use Rattle.std.proofs.Common.{◌≡◌, ℕ, ◌+◌, ◌-◌, ◌*◌, ◌<◌, ◌≤◌, List, [], ◌∷◌, length, get_or, sym, refl, ap, ◌∙◌, subst, inl, inr, arith}
-use Rattle.document.specs.declared.record.Kind.{Kind}
-use Rattle.document.specs.declared.record.Kind.TheVariants.{Tree, Refutation}
+use Rattle.document.specs.declared.kind.Kind.{Kind}
+use Rattle.document.specs.declared.kind.Kind.TheVariants.{Tree, Refutation}
 use Rattle.document.specs.declared.record.Record.{Record}
 use Rattle.document.specs.Bytes.{record_at}
 use Rattle.document.specs.Forms.{Unasked, Formed, Behind, Faulty}

@@ -1,17 +1,16 @@
 -- One step back over a sibling. Assumes nothing.
-use Rattle.std.proofs.Common.{◌≡◌, ℕ, ◌+◌, ◌-◌, ◌<◌, ◌≤◌, ◌⊎◌, List, [], ◌∷◌, sym, refl, ap, subst, inl, inr, ⊎_elim, arith}
-use Rattle.document.specs.declared.record.Kind.{Kind}
+use Rattle.std.proofs.Common.{◌≡◌, ℕ, ◌+◌, ◌-◌, ◌<◌, ◌≤◌, List, [], ◌∷◌, sym, refl, ap, subst, inl, inr, ⊎_elim, arith, Some, None, Option, Result, Ok, Err}
+use Rattle.document.specs.declared.kind.Kind.{Kind}
 use Rattle.document.specs.declared.record.Record.{Record}
-use Rattle.document.specs.declared.row.Siblings.{Siblings}
-use Rattle.document.specs.declared.row.Siblings.TheVariants.{Broken, Rising, Late}
+use Rattle.document.specs.declared.row.Misfit.{Misfit}
 use Rattle.document.specs.Forms.{key, Row, Begins, Beside}
 use Rattle.document.specs.Walks.{Tells}
 
 -- what a row tells, where the siblings behind it, looked at before, told `found`
-abbrev pub over : Siblings → Siblings → Siblings
-over found Broken = Broken
-over found Rising = found
-over found (Late p) = Late p
+abbrev pub over : Option ℕ → Result (Option ℕ) Misfit → Result (Option ℕ) Misfit
+over found (Err misfit) = Err misfit
+over found (Ok None) = Ok found
+over found (Ok (Some p)) = Ok (Some p)
 
 module _ (kind : Kind) (at : ℕ → Record) (low : ℕ) where
   -- each sibling of a row with one before it stands below the row's end
@@ -37,9 +36,9 @@ module _ (kind : Kind) (at : ℕ → Record) (low : ℕ) where
     wider rest row = (refl, fits, row)
 
     pub step_rising : ((b : ℕ) → c - (at c).span ≡ b + 1 → low < c - (at c).span → key kind (at b) < key kind (at c))
-        → (r : Siblings) → Tells kind at low (c - (at c).span) r → Tells kind at low (c + 1) r
-    step_rising up Broken tells = λ cs row. let s = strip cs row in tells s.0 s.1
-    step_rising up Rising tells =
+        → (r : Result (Option ℕ) Misfit) → Tells kind at low (c - (at c).span) r → Tells kind at low (c + 1) r
+    step_rising up (Err misfit) tells = λ cs row. let s = strip cs row in tells s.0 s.1
+    step_rising up (Ok None) tells =
         let cs = tells.0 in
         let row = tells.1 in (
           c ∷ cs,
@@ -49,7 +48,7 @@ module _ (kind : Kind) (at : ℕ → Record) (low : ℕ) where
               (λ there. tells.2 d (behind.0, there, behind.2))
               behind.1,
         )
-    step_rising up (Late p) tells =
+    step_rising up (Ok (Some p)) tells =
         let cs = tells.0 in
         let row = tells.1 in
         let late = tells.2 in (
@@ -63,10 +62,10 @@ module _ (kind : Kind) (at : ℕ → Record) (low : ℕ) where
         )
 
     pub step_late : (b : ℕ) → c - (at c).span ≡ b + 1 → low < c - (at c).span → key kind (at c) ≤ key kind (at b)
-        → (r : Siblings) → Tells kind at low (c - (at c).span) r → Tells kind at low (c + 1) (over (Late c) r)
-    step_late b is more down Broken tells = λ cs row. let s = strip cs row in tells s.0 s.1
-    step_late b is more down Rising ([], row, none) = let e : c - (at c).span ≡ low = row in absurd (omega arith)
-    step_late b is more down Rising (y ∷ ys, row, none) =
+        → (r : Result (Option ℕ) Misfit) → Tells kind at low (c - (at c).span) r → Tells kind at low (c + 1) (over (Some c) r)
+    step_late b is more down (Err misfit) tells = λ cs row. let s = strip cs row in tells s.0 s.1
+    step_late b is more down (Ok None) ([], row, none) = let e : c - (at c).span ≡ low = row in absurd (omega arith)
+    step_late b is more down (Ok None) (y ∷ ys, row, none) =
         let e : y ≡ b = omega (arith, row.0) in (
           c ∷ y ∷ ys,
           wider (y ∷ ys) row,
@@ -76,7 +75,7 @@ module _ (kind : Kind) (at : ℕ → Record) (low : ℕ) where
               (λ there. none d (behind.0, there, behind.2))
               behind.1,
         )
-    step_late b is more down (Late p) tells =
+    step_late b is more down (Ok (Some p)) tells =
         let cs = tells.0 in
         let row = tells.1 in
         let late = tells.2 in
@@ -90,15 +89,15 @@ module _ (kind : Kind) (at : ℕ → Record) (low : ℕ) where
               behind.1,
         )
 
-  module _ (found : Siblings) (end i : ℕ) (child : Record) (inv : (r : Siblings) → Tells kind at low end r → Tells kind at low i (over found r)) (is : child ≡ at (end - 1)) (inside : low < end) where
+  module _ (found : Option ℕ) (end i : ℕ) (child : Record) (inv : (r : Result (Option ℕ) Misfit) → Tells kind at low end r → Tells kind at low i (over found r)) (is : child ≡ at (end - 1)) (inside : low < end) where
     span_is : child.span ≡ (at (end - 1)).span
     span_is = ap (λ (e : Record). e.span) is
 
     back : end - 1 + 1 ≡ end
     back = omega arith
 
-    pub turn_broken : end - 1 - low < child.span → Tells kind at low i Broken
-    turn_broken over-long = inv Broken (λ cs row. long cs row)
+    pub turn_broken : end - 1 - low < child.span → (misfit : Misfit) → Tells kind at low i (Err misfit)
+    turn_broken over-long misfit = inv (Err misfit) (λ cs row. long cs row)
       where
         long : (cs : List ℕ) → Row at low cs end → ⊥
         long [] row = let e : end ≡ low = row in omega arith
@@ -106,31 +105,31 @@ module _ (kind : Kind) (at : ℕ → Record) (low : ℕ) where
 
     module _ (fits : child.span ≤ end - 1 - low) where
       -- the two ends of a step, as the lemmas above have them
-      onward : (r : Siblings) → Tells kind at low (end - 1 - child.span) r → Tells kind at low (end - 1 - (at (end - 1)).span) r
+      onward : (r : Result (Option ℕ) Misfit) → Tells kind at low (end - 1 - child.span) r → Tells kind at low (end - 1 - (at (end - 1)).span) r
       onward r tells = subst (λ (s : ℕ). Tells kind at low (end - 1 - s) r) span_is tells
 
       holds : low + (at (end - 1)).span ≤ end - 1
       holds = omega (arith, span_is)
 
       pub turn_late : low < end - 1 - child.span → key kind child ≤ key kind (at (end - 1 - child.span - 1))
-          → (r : Siblings) → Tells kind at low (end - 1 - child.span) r → Tells kind at low i (over (Late (end - 1)) r)
-      turn_late more down r tells = again r (subst (λ e. Tells kind at low e (over (Late (end - 1)) r)) back stepped)
+          → (r : Result (Option ℕ) Misfit) → Tells kind at low (end - 1 - child.span) r → Tells kind at low i (over (Some (end - 1)) r)
+      turn_late more down r tells = again r (subst (λ e. Tells kind at low e (over (Some (end - 1)) r)) back stepped)
         where
           before : ℕ
           before = end - 1 - child.span - 1
 
-          stepped : Tells kind at low (end - 1 + 1) (over (Late (end - 1)) r)
+          stepped : Tells kind at low (end - 1 + 1) (over (Some (end - 1)) r)
           stepped =
               step_late (end - 1) holds (end - 1 - child.span - 1) (omega (arith, span_is)) (omega (arith, span_is))
               (subst (λ (e : Record). key kind e ≤ key kind (at (end - 1 - child.span - 1))) is down) r (onward r tells)
 
-          again : (r : Siblings) → Tells kind at low end (over (Late (end - 1)) r) → Tells kind at low i (over (Late (end - 1)) r)
-          again Broken t = inv Broken t
-          again Rising t = inv (Late (end - 1)) t
-          again (Late p) t = inv (Late p) t
+          again : (r : Result (Option ℕ) Misfit) → Tells kind at low end (over (Some (end - 1)) r) → Tells kind at low i (over (Some (end - 1)) r)
+          again (Err misfit) t = inv (Err misfit) t
+          again (Ok None) t = inv (Ok (Some (end - 1))) t
+          again (Ok (Some p)) t = inv (Ok (Some p)) t
 
       pub turn_rising : (low < end - 1 - child.span → key kind (at (end - 1 - child.span - 1)) < key kind child)
-          → (r : Siblings) → Tells kind at low (end - 1 - child.span) r → Tells kind at low i (over found r)
+          → (r : Result (Option ℕ) Misfit) → Tells kind at low (end - 1 - child.span) r → Tells kind at low i (over found r)
       turn_rising up r tells =
           inv r (subst (λ e. Tells kind at low e r) back
           (step_rising (end - 1) holds
@@ -140,8 +139,8 @@ module _ (kind : Kind) (at : ℕ → Record) (low : ℕ) where
           subst (λ x. key kind (at b) < key kind x) is (subst (λ x. key kind (at x) < key kind child) (sym f) k))
           r (onward r tells)))
 
-  pub walk_done : (found : Siblings) (end i : ℕ) → ((r : Siblings) → Tells kind at low end r → Tells kind at low i (over found r)) → end ≡ low → Tells kind at low i found
-  walk_done found end i inv is = inv Rising ([], is, λ d behind. behind.1)
+  pub walk_done : (found : Option ℕ) (end i : ℕ) → ((r : Result (Option ℕ) Misfit) → Tells kind at low end r → Tells kind at low i (over found r)) → end ≡ low → Tells kind at low i (Ok found)
+  walk_done found end i inv is = inv (Ok None) ([], is, λ d behind. behind.1)
 
   -- a row has one list of siblings
   pub row_same : (cs ds : List ℕ) (end : ℕ) → Row at low cs end → Row at low ds end → cs ≡ ds

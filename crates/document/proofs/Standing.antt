@@ -1,9 +1,9 @@
 -- The records of a tree in form, one by one. Assumes nothing.
-use Rattle.std.proofs.Common.{◌≡◌, ℕ, ◌+◌, ◌-◌, ◌<◌, ◌≤◌, ◌⊎◌, List, [], ◌∷◌, ◌++◌, length, get_or, take, drop, sym, refl, ap, ◌∙◌, subst, inl, inr, ⊎_elim, arith}
+use Rattle.std.proofs.Common.{◌≡◌, ℕ, ◌+◌, ◌-◌, ◌<◌, ◌≤◌, List, [], ◌∷◌, ◌++◌, length, get_or, take, drop, sym, refl, ap, ◌∙◌, subst, inl, inr, ⊎_elim, arith}
 use Rattle.std.proofs.lemmas.List.{append_assoc, take_at, drop_at, length-append}
 use Rattle.std.proofs.lemmas.Bool.{cases_lt}
-use Rattle.document.specs.declared.record.Kind.{Kind}
-use Rattle.document.specs.declared.record.Kind.TheVariants.{Tree, Refutation}
+use Rattle.document.specs.declared.kind.Kind.{Kind}
+use Rattle.document.specs.declared.kind.Kind.TheVariants.{Tree, Refutation}
 use Rattle.document.specs.declared.record.Record.{Record}
 use Rattle.document.specs.Forms.{key, Shaped, Row, Children, Begins, Behind}
 use Rattle.document.specs.Trees.{Forest, none, grown, weight, records_of, Fitting, Lower, Grows}

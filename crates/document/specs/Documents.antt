@@ -1,5 +1,5 @@
 -- What a document that was read says. Assumes nothing.
-use Rattle.document.specs.declared.judge.Contents.{Contents}
+use Rattle.document.specs.declared.sheet.Contents.{Contents}
 use Rattle.document.specs.declared.judge.Document.{Document}
 use Rattle.document.specs.declared.judge.Document.TheVariants.{Tree, Refutation}
 use Rattle.document.specs.Bytes.{Paper}
@@ -16,6 +16,11 @@ tree_letter = 84
 -- the letter R
 abbrev pub refutation_letter : ℕ
 refutation_letter = 82
+
+-- what a document holds, of either kind
+abbrev pub contents_of : Document → Contents
+contents_of (Tree d) = d
+contents_of (Refutation d) = d
 
 -- the paper of a document: a tree has the letter T, a refutation the letter R
 abbrev pub document_paper : Document → Paper

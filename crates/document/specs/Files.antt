@@ -1,8 +1,8 @@
 -- What the bytes of a file say, and the checks that a file is put to. Assumes nothing.
-use Rattle.std.specs.Prelude.{◌≡◌, ℕ, ◌+◌, ◌-◌, ◌*◌, ◌≤◌, List, [], ◌∷◌, ◌++◌, length, take, drop, slice_index}
+use Rattle.std.specs.Prelude.{◌≡◌, ℕ, ◌+◌, ◌-◌, ◌*◌, ◌≤◌, List, [], ◌∷◌, ◌++◌, length, take, drop, slice_index, Option}
 use Rattle.fault.specs.declared.Check.TheVariants.{FileTooShort, KindOrEdition, Lengths, TitleByte, Figure, RecordForm}
 use Rattle.fault.specs.declared.Fault.{Fault}
-use Rattle.document.specs.declared.sheet.Takes.{Takes}
+use Rattle.document.specs.declared.kind.Kind.{Kind}
 use Rattle.document.specs.declared.file.Trailer.{Trailer}
 use Rattle.document.specs.Bytes.{Paper, encode, two_at, four_at, record_at}
 use Rattle.document.specs.Forms.{Faulty}
@@ -49,10 +49,10 @@ abbrev pub paper_in : List ℕ → Paper
 paper_in bs = paper_by (trailer_in bs) bs
 
 -- the checks of a file before the game that it is for is looked at
-abbrev pub opening_tests : Takes → List ℕ → List Test
-opening_tests takes bs =
+abbrev pub opening_tests : Option Kind → List ℕ → List Test
+opening_tests only bs =
     whole FileTooShort (36 ≤ length bs)
-    ∷ whole KindOrEdition (Taken takes (trailer_in bs).letter × ((trailer_in bs).edition ≡ 1))
+    ∷ whole KindOrEdition (Taken only (trailer_in bs).letter × ((trailer_in bs).edition ≡ 1))
     ∷ whole Lengths (Agreed (length bs) (trailer_in bs))
     ∷ whole TitleByte (Printable (paper_in bs).title)
     ∷ []
@@ -65,18 +65,18 @@ closing_tests bs =
     ∷ []
 
 -- the checks that a file is put to when it is read alone
-abbrev pub file_tests : Takes → List ℕ → List Test
-file_tests takes bs = opening_tests takes bs ++ closing_tests bs
+abbrev pub file_tests : Option Kind → List ℕ → List Test
+file_tests only bs = opening_tests only bs ++ closing_tests bs
 
 -- reading a file gives this paper: the file passes its checks, is the paper's bytes, and is a document that says it
-pub record Reads (takes : Takes) (bs : List ℕ) (p : Paper) : Type 0 where
+pub record Reads (only : Option Kind) (bs : List ℕ) (p : Paper) : Type 0 where
   pub says : p ≡ paper_in bs
   pub same : encode p ≡ bs
-  pub passed : Passed (file_tests takes bs)
-  pub stands : Stands takes bs p
+  pub passed : Passed (file_tests only bs)
+  pub stands : Stands only bs p
 
 -- reading a file gives this fault: that of the first check it does not pass, and it is no document
-pub record Rejects (takes : Takes) (bs : List ℕ) (f : Fault) : Type 0 where
-  pub first : Refused (file_tests takes bs) f
-  pub order : Numbered 0 (file_tests takes bs)
-  pub none : (p : Paper) → Stands takes bs p → ⊥
+pub record Rejects (only : Option Kind) (bs : List ℕ) (f : Fault) : Type 0 where
+  pub first : Refused (file_tests only bs) f
+  pub order : Numbered 0 (file_tests only bs)
+  pub none : (p : Paper) → Stands only bs p → ⊥

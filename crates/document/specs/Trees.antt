@@ -1,10 +1,9 @@
 -- What the bytes of a document are: a title, the records of a tree with its children before it, and a trailer. Assumes nothing.
-use Rattle.std.specs.Prelude.{◌≡◌, ℕ, ◌+◌, ◌<◌, ◌≤◌, ◌⊎◌, List, [], ◌∷◌, ◌++◌, length, ◌≢◌}
+use Rattle.std.specs.Prelude.{◌≡◌, ℕ, ◌+◌, ◌<◌, ◌≤◌, ◌⊎◌, List, [], ◌∷◌, ◌++◌, length, ◌≢◌, Option}
 use Rattle.std.specs.List.{flat_map}
-use Rattle.document.specs.declared.record.Kind.{Kind}
-use Rattle.document.specs.declared.record.Kind.TheVariants.{Tree, Refutation}
+use Rattle.document.specs.declared.kind.Kind.{Kind}
+use Rattle.document.specs.declared.kind.Kind.TheVariants.{Tree, Refutation}
 use Rattle.document.specs.declared.record.Record.{Record}
-use Rattle.document.specs.declared.sheet.Takes.{Takes}
 use Rattle.document.specs.Bytes.{Paper, encode, record_bytes}
 use Rattle.document.specs.Checks.{kind_of, Taken, Printable, Ranged}
 
@@ -58,9 +57,9 @@ pub record Planted (kind : Kind) (bs : List ℕ) : Type 0 where
   pub few : weight (grown none top answer value beneath) ≤ 1048576
 
 -- the bytes of a file are a document, which says this paper
-pub record Stands (takes : Takes) (bs : List ℕ) (p : Paper) : Type 0 where
+pub record Stands (only : Option Kind) (bs : List ℕ) (p : Paper) : Type 0 where
   pub same : bs ≡ encode p
-  pub letter : Taken takes p.letter
+  pub letter : Taken only p.letter
   pub short : length p.title ≤ 40
   pub printable : Printable p.title
   pub ranged : Ranged (kind_of p.letter) p.first p.second

@@ -1,14 +1,14 @@
 // Files: the fields of their trailer, and their parts.
-ghost use Rattle.std.specs.Prelude.{◌≡◌, ◌≤◌, length, MatchResult};
-ghost use Rattle.fault.specs.Faults.{refusal};
+ghost use Rattle.std.specs.Prelude.{◌≡◌, ◌≤◌, length, IfOk, MatchResult};
 ghost use Rattle.fault.specs.declared.Check.TheVariants.{FileTooShort, KindOrEdition, Lengths};
 ghost use Rattle.document.specs.Order.{Passed, Refused};
-ghost use Rattle.document.specs.Checks.{Taken, paper_of};
+ghost use Rattle.document.specs.Checks.{Taken, Checks, paper_of};
 ghost use Rattle.document.specs.Files.{trailer_in, Agreed, paper_in, opening_tests};
 
 use crate::fields::{four_at, two_at};
-use crate::sheet::{FileFault, Sheet, Takes, check_letter, check_title, refused};
-use fault::Check;
+use crate::kind::Kind;
+use crate::sheet::{Contents, FileFault, Sheet, check_letter, check_title};
+use fault::{Check, Place};
 
 #[derive(Clone, Copy)]
 pub(crate) struct Trailer {
@@ -23,10 +23,11 @@ pub(crate) struct Trailer {
 }
 
 fn trailer_of(file: &[u8]) -> Result<Trailer, FileFault>
-    ensures { MatchResult result (λ t. (36 ≤ length file.now) × (t ≡ trailer_in file.now)) (λ f. (36 ≤ length file.now → ⊥) × (f.fault ≡ refusal FileTooShort)) }
+    ensures room { Checks result (36 ≤ length file.now) FileTooShort }
+    ensures trailer { IfOk result (λ t. t ≡ trailer_in file.now) }
 {
     if file.len() < 36 {
-        return Err(refused(Check::FileTooShort));
+        return Err(Check::FileTooShort.at(Place::Nowhere).into());
     }
     let at = file.len() - 24;
     Ok(Trailer {
@@ -41,19 +42,19 @@ fn trailer_of(file: &[u8]) -> Result<Trailer, FileFault>
     })
 }
 
-fn check_edition(takes: Takes, trailer: Trailer) -> Result<(), FileFault>
-    ensures { MatchResult result (λ _. Taken takes trailer.letter × (trailer.edition ≡ 1)) (λ f. (Taken takes trailer.letter × (trailer.edition ≡ 1) → ⊥) × (f.fault ≡ refusal KindOrEdition)) }
+fn check_edition(only: Option<Kind>, trailer: Trailer) -> Result<(), FileFault>
+    ensures { Checks result (Taken only trailer.letter × (trailer.edition ≡ 1)) KindOrEdition }
 {
-    check_letter(takes, trailer.letter)?;
+    check_letter(only, trailer.letter)?;
     if trailer.edition == 1 {
         Ok(())
     } else {
-        Err(refused(Check::KindOrEdition))
+        Err(Check::KindOrEdition.at(Place::Nowhere).into())
     }
 }
 
 fn check_agreement(size: usize, trailer: Trailer) -> Result<(), FileFault>
-    ensures { MatchResult result (λ _. Agreed size trailer) (λ f. (Agreed size trailer → ⊥) × (f.fault ≡ refusal Lengths)) }
+    ensures { Checks result (Agreed size trailer) Lengths }
 {
     let count = trailer.count as usize;
     let title = trailer.title as usize;
@@ -65,16 +66,16 @@ fn check_agreement(size: usize, trailer: Trailer) -> Result<(), FileFault>
     {
         Ok(())
     } else {
-        Err(refused(Check::Lengths))
+        Err(Check::Lengths.at(Place::Nowhere).into())
     }
 }
 
 // What a file says, if its trailer and its title are in order; its figures and records are not looked at.
-pub fn opened<'a>(takes: Takes, file: &'a [u8]) -> Result<Sheet<'a>, FileFault>
-    ensures { MatchResult result (λ s. (paper_of s ≡ paper_in file.now) × Passed (opening_tests takes file.now)) (λ f. Refused (opening_tests takes file.now) f.fault) }
+pub fn opened<'a>(only: Option<Kind>, file: &'a [u8]) -> Result<Sheet<'a>, FileFault>
+    ensures { MatchResult result (λ s. (paper_of s ≡ paper_in file.now) × Passed (opening_tests only file.now)) (λ f. Refused (opening_tests only file.now) f.fault) }
 {
     let trailer = trailer_of(file)?;
-    check_edition(takes, trailer)?;
+    check_edition(only, trailer)?;
     check_agreement(file.len(), trailer)?;
     let start = trailer.title as usize;
     let end = start + 12 * trailer.count as usize;
@@ -82,10 +83,12 @@ pub fn opened<'a>(takes: Takes, file: &'a [u8]) -> Result<Sheet<'a>, FileFault>
     check_title(title)?;
     Ok(Sheet {
         letter: trailer.letter,
-        title,
-        records: &file[start..end],
-        first: trailer.first,
-        second: trailer.second,
-        game: trailer.game,
+        contents: Contents {
+            title,
+            records: &file[start..end],
+            first: trailer.first,
+            second: trailer.second,
+            game: trailer.game,
+        },
     })
 }

@@ -4,8 +4,9 @@ ghost use Rattle.document.specs.Bytes.{record_at};
 ghost use Rattle.document.specs.Forms.{Shaped, Unasked, Plain, Blames, Faulty};
 ghost use Rattle.document.specs.Walks.{Least, lower};
 
-use crate::record::{Kind, Record, record_at};
-use crate::row::{Siblings, stand_of};
+use crate::kind::Kind;
+use crate::record::{Record, record_at};
+use crate::row::{Misfit, lowest_late};
 
 fn is_shaped(kind: Kind, item: Record) -> bool
     ensures { Decides result (Shaped kind item) }
@@ -44,11 +45,10 @@ fn lowest_blamed(kind: Kind, records: &[u8], count: usize, i: usize) -> Option<u
     if span > i {
         return Some(i);
     }
-    match stand_of(kind, records, i - span, i) {
-        Siblings::Late(place) => Some(place),
-        Siblings::Rising if is_plain(kind, item, count, i) => None,
-        Siblings::Rising => Some(i),
-        Siblings::Broken => Some(i),
+    match lowest_late(kind, records, i - span, i) {
+        Ok(Some(place)) => Some(place),
+        Ok(None) if is_plain(kind, item, count, i) => None,
+        Ok(None) | Err(Misfit) => Some(i),
     }
 }
 

@@ -1,40 +1,51 @@
 // What a document says, put to all its checks.
 ghost use Rattle.std.specs.Prelude.{◌≡◌, MatchResult};
 ghost use Rattle.document.specs.Order.{Passed, Refused};
-ghost use Rattle.document.specs.Checks.{paper_of, paper_tests, letter_for, lettered};
-ghost use Rattle.document.specs.Documents.{document_paper};
+ghost use Rattle.document.specs.Checks.{paper_of, paper_tests, letter_for};
+ghost use Rattle.document.specs.Documents.{contents_of, contents_paper, document_paper};
 
-use crate::record::Kind;
+use crate::kind::Kind;
 use crate::sheet::{
-    FileFault, Sheet, Takes, check_figures, check_lengths, check_letter, check_records, check_title,
+    Contents, FileFault, Sheet, check_figures, check_lengths, check_letter, check_records,
+    check_title,
 };
 
-// What a document holds; title and records are parts of the bytes it was read from.
-#[derive(Clone, Copy)]
-pub struct Contents<'a> {
-    pub title: &'a [u8],
-    pub records: &'a [u8],
-    pub first: u32,
-    pub second: u32,
-    pub game: u32,
-}
-
+// What passed its checks, and the kind that its letter says.
 #[derive(Clone, Copy)]
 pub enum Document<'a> {
     Tree(Contents<'a>),
     Refutation(Contents<'a>),
 }
 
-fn document_of<'a>(kind: Kind, sheet: Sheet<'a>) -> Document<'a>
-    ensures { document_paper result ≡ lettered (letter_for kind) (paper_of sheet.entry) }
+impl<'a> Document<'a> {
+    // What the document holds, of either kind.
+    pub fn contents(self) -> Contents<'a>
+        ensures { result ≡ contents_of self.entry }
+    {
+        match self {
+            Document::Tree(contents) | Document::Refutation(contents) => contents,
+        }
+    }
+}
+
+impl<'a> From<Document<'a>> for Sheet<'a> {
+    ghost from_gives = { λ document sheet. paper_of sheet ≡ document_paper document };
+
+    fn from(document: Document<'a>) -> Sheet<'a> {
+        let kind = match document {
+            Document::Tree(_) => Kind::Tree,
+            Document::Refutation(_) => Kind::Refutation,
+        };
+        Sheet {
+            letter: kind.into(),
+            contents: document.contents(),
+        }
+    }
+}
+
+fn document_of<'a>(kind: Kind, contents: Contents<'a>) -> Document<'a>
+    ensures { document_paper result ≡ contents_paper (letter_for kind) contents.entry }
 {
-    let contents = Contents {
-        title: sheet.title,
-        records: sheet.records,
-        first: sheet.first,
-        second: sheet.second,
-        game: sheet.game,
-    };
     match kind {
         Kind::Tree => Document::Tree(contents),
         Kind::Refutation => Document::Refutation(contents),
@@ -45,10 +56,11 @@ fn document_of<'a>(kind: Kind, sheet: Sheet<'a>) -> Document<'a>
 pub fn judged<'a>(sheet: Sheet<'a>) -> Result<Document<'a>, FileFault>
     ensures { MatchResult result (λ d. (document_paper d ≡ paper_of sheet.entry) × Passed (paper_tests (paper_of sheet.entry))) (λ f. Refused (paper_tests (paper_of sheet.entry)) f.fault) }
 {
-    let kind = check_letter(Takes::Either, sheet.letter)?;
-    let count = check_lengths(sheet.title, sheet.records)?;
-    check_title(sheet.title)?;
-    check_figures(kind, sheet.first, sheet.second)?;
-    check_records(kind, sheet.records, count)?;
-    Ok(document_of(kind, sheet))
+    let contents = sheet.contents;
+    let kind = check_letter(None, sheet.letter)?;
+    let count = check_lengths(contents.title, contents.records)?;
+    check_title(contents.title)?;
+    check_figures(kind, contents.first, contents.second)?;
+    check_records(kind, contents.records, count)?;
+    Ok(document_of(kind, contents))
 }

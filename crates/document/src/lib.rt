@@ -5,13 +5,15 @@ mod fields;
 mod file;
 mod form;
 mod judge;
+mod kind;
 mod reader;
 mod record;
 mod row;
 mod sheet;
 
 pub use file::opened;
-pub use judge::{Contents, Document, judged};
+pub use judge::{Document, judged};
+pub use kind::Kind;
 pub use reader::{read, read_refutation, read_tree};
-pub use record::{Kind, Record, record_in};
-pub use sheet::{FileFault, Sheet, Takes};
+pub use record::{Record, record_in};
+pub use sheet::{Contents, FileFault, Sheet};

@@ -4,13 +4,7 @@ ghost use Rattle.document.specs.Bytes.{record_at};
 ghost use Rattle.document.specs.Forms.{key};
 
 use crate::fields::{four_at, two_at};
-
-// What a document is: a tree of guesses, or a refutation.
-#[derive(Clone, Copy)]
-pub enum Kind {
-    Tree,
-    Refutation,
-}
+use crate::kind::Kind;
 
 // One record as it stands in a file; in form, its gap is zero.
 #[derive(Clone, Copy)]

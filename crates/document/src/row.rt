@@ -3,34 +3,36 @@ ghost use Rattle.std.specs.Prelude.{◌*◌, ◌≤◌, length};
 ghost use Rattle.document.specs.Bytes.{record_at};
 ghost use Rattle.document.specs.Walks.{Tells};
 
-use crate::record::{Kind, key_of, record_at};
+use crate::kind::Kind;
+use crate::record::{key_of, record_at};
 
-// How records that should be one row of siblings stand: the spans do not fit, or they do and the siblings rise,
-// or the sibling at a place, the lowest such, does not rise above the one before it.
-#[derive(Clone, Copy)]
-pub(crate) enum Siblings {
-    Broken,
-    Rising,
-    Late(usize),
-}
+// Spans that do not make the records between two places one row of siblings.
+#[derive(Clone, Copy, PartialEq, Eq, Debug)]
+pub(crate) struct Misfit;
 
-pub(crate) fn stand_of(kind: Kind, records: &[u8], low: usize, i: usize) -> Siblings
+// The lowest of the siblings from `low` up to `i` that does not rise above the one before it, if there is one.
+pub(crate) fn lowest_late(
+    kind: Kind,
+    records: &[u8],
+    low: usize,
+    i: usize,
+) -> Result<Option<usize>, Misfit>
     requires { (low ≤ i) × (12 * i ≤ length records.now) }
     ensures { Tells kind (record_at records.now) low i result }
 {
     let mut end = i;
-    let mut found = Siblings::Rising;
+    let mut found = None;
     while low < end {
         let child = record_at(records, end - 1);
         let span = child.span as usize;
         if span > end - 1 - low {
-            return Siblings::Broken;
+            return Err(Misfit);
         }
         let next = end - 1 - span;
         if low < next && key_of(kind, child) <= key_of(kind, record_at(records, next - 1)) {
-            found = Siblings::Late(end - 1);
+            found = Some(end - 1);
         }
         end = next;
     }
-    found
+    Ok(found)
 }

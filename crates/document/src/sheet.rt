@@ -1,15 +1,12 @@
 // What a document says, and the checks of it one by one.
-ghost use Rattle.std.specs.Prelude.{◌≡◌, ℕ, ◌*◌, ◌/◌, ◌≤◌, length, Some, None, MatchResult};
-ghost use Rattle.fault.specs.Faults.{refusal, fault_at};
+ghost use Rattle.std.specs.Prelude.{◌≡◌, ◌*◌, ◌/◌, ◌≤◌, length, IfOk};
 ghost use Rattle.fault.specs.declared.Check.TheVariants.{KindOrEdition, Lengths, TitleByte, Figure, RecordForm};
-ghost use Rattle.fault.specs.declared.Place.TheVariants.{Record};
 ghost use Rattle.document.specs.Bytes.{record_at};
 ghost use Rattle.document.specs.Forms.{Faulty};
-ghost use Rattle.document.specs.Walks.{Least};
-ghost use Rattle.document.specs.Checks.{kind_of, Taken, Sized, Printable, Ranged};
+ghost use Rattle.document.specs.Checks.{kind_of, Taken, Checks, ChecksEach, Sized, Printable, Ranged};
 
 use crate::form::lowest_faulty;
-use crate::record::Kind;
+use crate::kind::Kind;
 use fault::{Check, Fault, Place};
 
 // What reading and writing refuse with.
@@ -18,18 +15,17 @@ pub struct FileFault {
     pub fault: Fault,
 }
 
-// Which letters a call takes.
-#[derive(Clone, Copy)]
-pub enum Takes {
-    Either,
-    OnlyTrees,
-    OnlyRefutations,
+impl From<Fault> for FileFault {
+    ghost from_gives = { λ fault f. f.fault ≡ fault };
+
+    fn from(fault: Fault) -> FileFault {
+        FileFault { fault }
+    }
 }
 
-// What a document says, in the form of its file but for the trailer: nothing of it need be right.
+// What stands in a document; title and records are bytes, as in a file.
 #[derive(Clone, Copy)]
-pub struct Sheet<'a> {
-    pub letter: u8,
+pub struct Contents<'a> {
     pub title: &'a [u8],
     pub records: &'a [u8],
     pub first: u32,
@@ -37,49 +33,52 @@ pub struct Sheet<'a> {
     pub game: u32,
 }
 
-pub(crate) fn refused(check: Check) -> FileFault
-    ensures { result.fault ≡ refusal check }
-{
-    FileFault {
-        fault: check.at(Place::Nowhere),
-    }
+// What a document says: nothing of it need be right.
+// The letter is any byte, since a wrong one is to be refused here; a narrower type would leave that to callers.
+#[derive(Clone, Copy)]
+pub struct Sheet<'a> {
+    pub letter: u8,
+    pub contents: Contents<'a>,
 }
 
-pub(crate) fn check_letter(takes: Takes, letter: u8) -> Result<Kind, FileFault>
-    ensures { MatchResult result (λ k. (k ≡ kind_of letter) × Taken takes letter) (λ f. (Taken takes letter → ⊥) × (f.fault ≡ refusal KindOrEdition)) }
+// Answers the kind that the letter stands for; with `only` given, no other kind is taken.
+pub(crate) fn check_letter(only: Option<Kind>, letter: u8) -> Result<Kind, FileFault>
+    ensures taken { Checks result (Taken only letter) KindOrEdition }
+    ensures kind { IfOk result (λ k. k ≡ kind_of letter) }
 {
-    match (takes, letter) {
-        (Takes::Either | Takes::OnlyTrees, b'T') => Ok(Kind::Tree),
-        (Takes::Either | Takes::OnlyRefutations, b'R') => Ok(Kind::Refutation),
-        _ => Err(refused(Check::KindOrEdition)),
+    let kind = Kind::try_from(letter)?;
+    match only {
+        Some(taken) if taken != kind => Err(Check::KindOrEdition.at(Place::Nowhere).into()),
+        _ => Ok(kind),
     }
 }
 
 // Answers how many records there are.
 pub(crate) fn check_lengths(title: &[u8], records: &[u8]) -> Result<usize, FileFault>
-    ensures { MatchResult result (λ n. (n ≡ length records.now / 12) × Sized title.now records.now) (λ f. (Sized title.now records.now → ⊥) × (f.fault ≡ refusal Lengths)) }
+    ensures sized { Checks result (Sized title.now records.now) Lengths }
+    ensures count { IfOk result (λ n. n ≡ length records.now / 12) }
 {
     let count = records.len() / 12;
     if title.len() <= 40 && records.len() == 12 * count && 1 <= count && count <= 1_048_576 {
         Ok(count)
     } else {
-        Err(refused(Check::Lengths))
+        Err(Check::Lengths.at(Place::Nowhere).into())
     }
 }
 
 pub(crate) fn check_title(title: &[u8]) -> Result<(), FileFault>
-    ensures { MatchResult result (λ _. Printable title.now) (λ f. (Printable title.now → ⊥) × (f.fault ≡ refusal TitleByte)) }
+    ensures { Checks result (Printable title.now) TitleByte }
 {
     for b in title {
         if *b < 32 || 126 < *b {
-            return Err(refused(Check::TitleByte));
+            return Err(Check::TitleByte.at(Place::Nowhere).into());
         }
     }
     Ok(())
 }
 
 pub(crate) fn check_figures(kind: Kind, first: u32, second: u32) -> Result<(), FileFault>
-    ensures { MatchResult result (λ _. Ranged kind first second) (λ f. (Ranged kind first second → ⊥) × (f.fault ≡ refusal Figure)) }
+    ensures { Checks result (Ranged kind first second) Figure }
 {
     let ranged = match kind {
         Kind::Tree => 1 <= first && first <= 30 && 1 <= second && second <= 491_520,
@@ -88,18 +87,16 @@ pub(crate) fn check_figures(kind: Kind, first: u32, second: u32) -> Result<(), F
     if ranged {
         Ok(())
     } else {
-        Err(refused(Check::Figure))
+        Err(Check::Figure.at(Place::Nowhere).into())
     }
 }
 
 pub(crate) fn check_records(kind: Kind, records: &[u8], count: usize) -> Result<(), FileFault>
     requires { (12 * count ≤ length records.now) × (count ≤ 1048576) }
-    ensures { MatchResult result (λ _. Least (Faulty kind (record_at records.now) count) None) (λ f. (p : ℕ) × Least (Faulty kind (record_at records.now) count) (Some p) × (f.fault ≡ fault_at RecordForm (Record p))) }
+    ensures { ChecksEach result (Faulty kind (record_at records.now) count) RecordForm }
 {
     match lowest_faulty(kind, records, count) {
         None => Ok(()),
-        Some(place) => Err(FileFault {
-            fault: Check::RecordForm.at(Place::Record(place as u32)),
-        }),
+        Some(place) => Err(Check::RecordForm.at(Place::Record(place as u32)).into()),
     }
 }

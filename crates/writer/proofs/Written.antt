@@ -1,8 +1,7 @@
 -- A buffer that is filled part by part from its front, and what is read from it. Assumes nothing.
-use Rattle.std.proofs.Common.{◌≡◌, ℕ, ◌+◌, ◌<◌, ◌≤◌, List, [], ◌∷◌, ◌++◌, length, get_or, take, drop, sym, ap, ◌∙◌, subst, ⊎_elim, arith}
+use Rattle.std.proofs.Common.{◌≡◌, ℕ, ◌+◌, ◌<◌, ◌≤◌, List, [], ◌∷◌, ◌++◌, length, get_or, take, drop, sym, ap, ◌∙◌, subst, ⊎_elim, arith, None}
 use Rattle.fault.specs.declared.Check.TheVariants.{OutputTooShort}
 use Rattle.fault.specs.declared.Fault.{Fault}
-use Rattle.document.specs.declared.sheet.Takes.TheVariants.{Either}
 use Rattle.document.specs.Bytes.{Paper, encode, size}
 use Rattle.document.specs.Order.{whole, Passed, Refused}
 use Rattle.document.specs.Checks.{paper_tests}
@@ -31,12 +30,12 @@ put_more done part before out after k n long was is end =
 pub written_again : (p : Paper) (n : ℕ) (before after : List ℕ) → ((i : ℕ) → get_or after i 0 < 256) → p.game < 4294967296 → n ≡ size p → size p ≤ length before → after ≡ encode p ++ drop n before → Passed (paper_tests p) → Writes p n before after
 written_again p n before after typed game all room bytes passed =
     let front = ap (take n) bytes ∙ take_at (encode p) (drop n before) n (size_is p ∙ sym all) in
-    let stands = stands_so Either (take n after) (taken_byte n after typed) p front passed.0 game passed in
+    let stands = stands_so None (take n after) (taken_byte n after typed) p front passed.0 game passed in
     record {
       all = all;
       bytes = bytes;
       passed = passed_append (paper_tests p) (whole OutputTooShort (size p ≤ length before) ∷ []) passed (room, tt);
-      back = record { says = stands_says Either (take n after) p stands; same = sym front; passed = stands_passed Either (take n after) p stands; stands = stands };
+      back = record { says = stands_says None (take n after) p stands; same = sym front; passed = stands_passed None (take n after) p stands; stands = stands };
     }
   where
     taken_byte : (n : ℕ) (bs : List ℕ) → ((i : ℕ) → get_or bs i 0 < 256) → (i : ℕ) → get_or (take n bs) i 0 < 256
@@ -47,16 +46,16 @@ written_again p n before after typed game all room bytes passed =
         (cases_lt i n)
 
 -- a file that is not read is not written again
-pub not_reread : (bs : List ℕ) (room : ℕ) (f : Fault) → Rejects Either bs f → Refused (rewrite_tests bs room) f
-not_reread bs room f rejects = refused_front (file_tests Either bs) (whole OutputTooShort (length bs ≤ room) ∷ []) f rejects.first
+pub not_reread : (bs : List ℕ) (room : ℕ) (f : Fault) → Rejects None bs f → Refused (rewrite_tests bs room) f
+not_reread bs room f rejects = refused_front (file_tests None bs) (whole OutputTooShort (length bs ≤ room) ∷ []) f rejects.first
 
 -- what is read and written again
-module _ (bs : List ℕ) (bytes : (i : ℕ) → get_or bs i 0 < 256) (p : Paper) (read : Reads Either bs p) where
+module _ (bs : List ℕ) (bytes : (i : ℕ) → get_or bs i 0 < 256) (p : Paper) (read : Reads None bs p) where
   passed_in : Passed (paper_tests p)
   passed_in =
       let all = read.passed in
-      let open' : Passed (opening_tests Either bs) = (all.0, (all.1.0, (all.1.1.0, (all.1.1.1.0, tt)))) in
-      subst (λ q. Passed (paper_tests q)) (sym read.says) (paper_passed Either bs bytes open' all.1.1.1.1)
+      let open' : Passed (opening_tests None bs) = (all.0, (all.1.0, (all.1.1.0, (all.1.1.1.0, tt)))) in
+      subst (λ q. Passed (paper_tests q)) (sym read.says) (paper_passed None bs bytes open' all.1.1.1.1)
 
   size_same : size p ≡ length bs
   size_same = sym (size_is p) ∙ ap length read.same
@@ -65,11 +64,11 @@ module _ (bs : List ℕ) (bytes : (i : ℕ) → get_or bs i 0 < 256) (p : Paper)
   rewritten n before after w = (
     w.all ∙ size_same,
     w.bytes ∙ ap (λ l. l ++ drop n before) read.same,
-    passed_append (file_tests Either bs) (whole OutputTooShort (length bs ≤ length before) ∷ []) read.passed (subst (λ k. k ≤ length before) size_same w.passed.1.1.1.1.1.0, tt),
+    passed_append (file_tests None bs) (whole OutputTooShort (length bs ≤ length before) ∷ []) read.passed (subst (λ k. k ≤ length before) size_same w.passed.1.1.1.1.1.0, tt),
   )
 
   pub not_rewritten : (f : Fault) (room : ℕ) → Refused (write_tests p room) f → Refused (rewrite_tests bs room) f
   not_rewritten f room refused =
       let rest = refused_rest (paper_tests p) (whole OutputTooShort (size p ≤ room) ∷ []) f passed_in refused in
-      refused_back (file_tests Either bs) (whole OutputTooShort (length bs ≤ room) ∷ []) f read.passed
+      refused_back (file_tests None bs) (whole OutputTooShort (length bs ≤ room) ∷ []) f read.passed
       (subst (λ k. Refused (whole OutputTooShort (k ≤ room) ∷ []) f) size_same rest)

@@ -4,5 +4,5 @@
 mod round;
 mod writer;
 
-pub use round::{reread, rewrite, sheet_of};
+pub use round::{reread, rewrite};
 pub use writer::write;

@@ -1,27 +1,26 @@
 // Documents written into a buffer of the caller's.
-ghost use Rattle.std.specs.Prelude.{◌≡◌, ◌+◌, ◌/◌, ◌<◌, ◌≤◌, ◌++◌, length, take, drop, MatchResult};
-ghost use Rattle.fault.specs.Faults.{refusal};
+ghost use Rattle.std.specs.Prelude.{◌≡◌, ◌+◌, ◌/◌, ◌<◌, ◌≤◌, ◌++◌, length, take, drop, IfOk, MatchResult};
 ghost use Rattle.fault.specs.declared.Check.TheVariants.{OutputTooShort};
 ghost use Rattle.document.specs.Bytes.{trailer, encode, size};
 ghost use Rattle.document.specs.Order.{Refused};
-ghost use Rattle.document.specs.Checks.{paper_of, Sized};
+ghost use Rattle.document.specs.Checks.{paper_of, Checks, Sized};
 ghost use Rattle.writer.specs.Writing.{write_tests, Writes};
 
 use document::{FileFault, Sheet, judged};
 use fault::{Check, Place};
 
 fn trailer_bytes(sheet: Sheet<'_>) -> [u8; 24]
-    requires { Sized sheet.title.now sheet.records.now }
-    ensures bytes { result ≡ trailer sheet.entry.letter (length sheet.entry.title.now) (length sheet.entry.records.now / 12) sheet.entry.first sheet.entry.second sheet.entry.game }
-    ensures fits { sheet.entry.game < 4294967296 }
+    requires { Sized sheet.contents.title.now sheet.contents.records.now }
+    ensures bytes { result ≡ trailer sheet.entry.letter (length sheet.entry.contents.title.now) (length sheet.entry.contents.records.now / 12) sheet.entry.contents.first sheet.entry.contents.second sheet.entry.contents.game }
+    ensures fits { sheet.entry.contents.game < 4294967296 }
 {
-    let title = (sheet.title.len() as u16).to_be_bytes();
-    let records = (sheet.records.len() / 12) as u32;
+    let title = (sheet.contents.title.len() as u16).to_be_bytes();
+    let records = (sheet.contents.records.len() / 12) as u32;
     let count = records.to_be_bytes();
-    let first = sheet.first.to_be_bytes();
-    let second = sheet.second.to_be_bytes();
+    let first = sheet.contents.first.to_be_bytes();
+    let second = sheet.contents.second.to_be_bytes();
     let distance = (12 * records).to_be_bytes();
-    let game = sheet.game.to_be_bytes();
+    let game = sheet.contents.game.to_be_bytes();
     [
         sheet.letter,
         1,
@@ -52,16 +51,15 @@ fn trailer_bytes(sheet: Sheet<'_>) -> [u8; 24]
 
 // Answers how many bytes there are to write.
 fn check_room(sheet: Sheet<'_>, room: usize) -> Result<usize, FileFault>
-    requires { Sized sheet.title.now sheet.records.now }
-    ensures { MatchResult result (λ n. (n ≡ size (paper_of sheet.entry)) × (size (paper_of sheet.entry) ≤ room)) (λ f. (size (paper_of sheet.entry) ≤ room → ⊥) × (f.fault ≡ refusal OutputTooShort)) }
+    requires { Sized sheet.contents.title.now sheet.contents.records.now }
+    ensures room { Checks result (size (paper_of sheet.entry) ≤ room) OutputTooShort }
+    ensures bytes { IfOk result (λ n. n ≡ size (paper_of sheet.entry)) }
 {
-    let bytes = sheet.title.len() + sheet.records.len() + 24;
+    let bytes = sheet.contents.title.len() + sheet.contents.records.len() + 24;
     if bytes <= room {
         Ok(bytes)
     } else {
-        Err(FileFault {
-            fault: Check::OutputTooShort.at(Place::Nowhere),
-        })
+        Err(Check::OutputTooShort.at(Place::Nowhere).into())
     }
 }
 
@@ -75,15 +73,15 @@ fn put_part(out: &mut [u8], at: usize, part: &[u8])
 }
 
 fn put_document(sheet: Sheet<'_>, out: &mut [u8])
-    requires { (Sized sheet.title.now sheet.records.now) × (size (paper_of sheet) ≤ length out.old) }
+    requires { (Sized sheet.contents.title.now sheet.contents.records.now) × (size (paper_of sheet) ≤ length out.old) }
     ensures bytes { out.new ≡ encode (paper_of sheet.entry) ++ drop (size (paper_of sheet.entry)) out.old }
-    ensures fits { sheet.entry.game < 4294967296 }
+    ensures fits { sheet.entry.contents.game < 4294967296 }
 {
-    let start = sheet.title.len();
-    let end = start + sheet.records.len();
+    let start = sheet.contents.title.len();
+    let end = start + sheet.contents.records.len();
     let last = trailer_bytes(sheet);
-    put_part(out, 0, sheet.title);
-    put_part(out, start, sheet.records);
+    put_part(out, 0, sheet.contents.title);
+    put_part(out, start, sheet.contents.records);
     put_part(out, end, &last);
 }
 

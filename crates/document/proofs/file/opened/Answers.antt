@@ -8,4 +8,4 @@ returns-in_err-check_title c =
     let told = c.in_ok-trailer.ensures in
     let title = c.in_err-check_title.ensures in
     rw (p.1, p.2)
-    (title_refused c.args.takes c.args.file.now _ _ told.1 told.0 c.in_ok-check_edition.ensures c.in_ok-check_agreement.ensures title.0 title.1)
+    (title_refused c.args.only c.args.file.now _ _ told.trailer told.room c.in_ok-check_edition.ensures c.in_ok-check_agreement.ensures title.0 title.1)

@@ -9,10 +9,10 @@ returns c =
     let opened = c.in_ok-sheet.ensures in
     let bytes = λ (i : ℕ). (c.type_inv.file i).fits in
     MatchResult-weaker c.judged.result c.judged.ensures
-    (λ d h. reads c.args.takes c.args.file.now bytes opened.1 _ (document_paper d) opened.0 h.0 h.1)
-    (λ f h. reading_refused c.args.takes c.args.file.now bytes opened.1 _ f.fault opened.0 h)
+    (λ d h. reads c.args.only c.args.file.now bytes opened.1 _ (document_paper d) opened.0 h.0 h.1)
+    (λ f h. reading_refused c.args.only c.args.file.now bytes opened.1 _ f.fault opened.0 h)
 
 pub returns-in_err-sheet : goal.returns-in_err-sheet
 returns-in_err-sheet c =
     let p = err_from_is_err_and c.from_residual.result c.from_residual.ensures.1 in
-    rw (p.1, p.2) (opening_refused c.args.takes c.args.file.now _ c.in_err-sheet.ensures)
+    rw (p.1, p.2) (opening_refused c.args.only c.args.file.now _ c.in_err-sheet.ensures)

@@ -1,6 +1,5 @@
-use Rattle.std.proofs.Common.{◌≡◌, ◌-◌, take, sym, ◌∙◌, subst, arith}
+use Rattle.std.proofs.Common.{◌≡◌, ◌-◌, take, sym, ◌∙◌, subst, arith, None}
 use Rattle.std.proofs.lemmas.Result.{MatchResult-weaker}
-use Rattle.document.specs.declared.sheet.Takes.TheVariants.{Either}
 use Rattle.document.specs.Checks.{paper_of}
 use Rattle.document.specs.Files.{Reads, file_tests}
 use Rattle.document.proofs.Orders.{not_both}
@@ -11,7 +10,7 @@ returns c =
     let n = c.in_ok-bytes.bytes in
     let w = c.in_ok-bytes.ensures in
     let e : n ≡ n - 0 = omega arith in
-    let back = subst (λ k. Reads Either (take k c.write.new.out) (paper_of c.args.sheet)) e w.back in
+    let back = subst (λ k. Reads None (take k c.write.new.out) (paper_of c.args.sheet)) e w.back in
     MatchResult-weaker c.read.result c.read.ensures
     (λ d h. (h.says ∙ sym back.says, w.passed))
-    (λ f h. absurd (not_both (file_tests Either (take (n - 0) c.write.new.out)) f.fault back.passed h.first))
+    (λ f h. absurd (not_both (file_tests None (take (n - 0) c.write.new.out)) f.fault back.passed h.first))

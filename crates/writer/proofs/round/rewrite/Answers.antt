@@ -1,6 +1,5 @@
-use Rattle.std.proofs.Common.{ℕ, length, sym, refl, subst}
+use Rattle.std.proofs.Common.{ℕ, length, sym, refl, subst, None}
 use Rattle.std.proofs.lemmas.Result.{MatchResult-weaker, err_from_is_err_and}
-use Rattle.document.specs.declared.sheet.Takes.TheVariants.{Either}
 use Rattle.document.specs.Files.{Reads}
 use Rattle.writer.proofs.Written.{rewritten, not_rewritten, not_reread}
 use Rattle.writer.proofs.round.rewrite.Goals as goal
@@ -8,7 +7,7 @@ use Rattle.writer.proofs.round.rewrite.Goals as goal
 pub returns : goal.returns
 returns c =
     let bytes = λ (i : ℕ). (c.type_inv.file i).fits in
-    let read = subst (Reads Either c.args.file.now) (sym c.sheet_of.ensures) c.in_ok-document.ensures in
+    let read = subst (Reads None c.args.file.now) (sym c.into.ensures) c.in_ok-document.ensures in
     MatchResult-weaker c.write.result c.write.ensures
     (λ n h. rewritten c.args.file.now bytes _ read n _ _ h)
     (λ f h. (h.0, not_rewritten c.args.file.now bytes _ read f.fault _ h.1))

@@ -7,8 +7,8 @@ use Rattle.writer.proofs.writer.put_document.Goals as goal
 
 pub returns : goal.returns
 returns c =
-    let title = c.args.sheet.title.now in
-    let records = c.args.sheet.records.now in
+    let title = c.args.sheet.contents.title.now in
+    let records = c.args.sheet.contents.records.now in
     let before = c.args.out.now in
     let last = c.trailer_bytes-last.result in
     let one = put_more [] title before before _ 0 (length title) refl refl c.put_part.ensures (omega arith) in

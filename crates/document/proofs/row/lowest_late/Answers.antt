@@ -2,13 +2,13 @@ use Rattle.std.proofs.Common.{ap, ◌∙◌, arith}
 use Rattle.document.specs.Bytes.{record_at}
 use Rattle.document.specs.Forms.{key}
 use Rattle.document.proofs.Rows.{turn_broken, turn_late, turn_rising, walk_done}
-use Rattle.document.proofs.row.stand_of.Goals as goal
-use Rattle.document.proofs.row.stand_of.Goals.{else-low-next-via-then-low-next+else-key_of, else-low-next-via-else-low-next}
+use Rattle.document.proofs.row.lowest_late.Goals as goal
+use Rattle.document.proofs.row.lowest_late.Goals.{else-low-next-via-then-low-next+else-key_of, else-low-next-via-else-low-next}
 
 pub returns-then-span-end : goal.returns-then-span-end
 returns-then-span-end c =
     turn_broken c.args.kind (record_at c.args.records.now) c.args.low c.loop-end.found c.loop-end.end c.args.i _
-    c.loop-end.invariant.2 c.record_at-child.ensures (omega arith) (omega arith)
+    c.loop-end.invariant.2 c.record_at-child.ensures (omega arith) (omega arith) _
 
 pub loop-end-preserved-then-key_of : goal.loop-end-preserved-then-key_of
 loop-end-preserved-then-key_of c = (

@@ -1,15 +1,15 @@
-use Rattle.std.proofs.Common.{◌-◌, ◌≤◌}
-use Rattle.document.specs.declared.row.Siblings.{Siblings}
+use Rattle.std.proofs.Common.{ℕ, ◌≤◌, Option, Result}
+use Rattle.document.specs.declared.row.Misfit.{Misfit}
 use Rattle.document.specs.Bytes.{record_at}
 use Rattle.document.specs.Walks.{Tells}
 use Rattle.document.proofs.Rows.{over}
-use Rattle.document.proofs.row.stand_of.Given as goal
+use Rattle.document.proofs.row.lowest_late.Given as goal
 
 -- whatever the records up to the end tell, with what was found so far they tell it of all up to i
 abbrev pub invariant-loop-end : goal.invariant-loop-end
 invariant-loop-end l =
     (l.low ≤ l.end) × (l.end ≤ l.i)
-    × ((r : Siblings) → Tells l.kind (record_at l.records) l.low l.end r → Tells l.kind (record_at l.records) l.low l.i (over l.found r))
+    × ((r : Result (Option ℕ) Misfit) → Tells l.kind (record_at l.records) l.low l.end r → Tells l.kind (record_at l.records) l.low l.i (over l.found r))
 
 abbrev pub decreases-loop-end : goal.decreases-loop-end
 decreases-loop-end l = l.end
