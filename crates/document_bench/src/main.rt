@@ -2,11 +2,11 @@
 #![tactic(auto)]
 
 use anyhow::anyhow;
-use document::{Sheet, read};
+use document::{Contents, Kind, Sheet, read};
 use std::alloc::{AllocError, Global};
 use std::env;
 use std::time::Instant;
-use writer::{sheet_of, write};
+use writer::write;
 
 fn put_record(records: &mut Vec<u8>, kind: u8, value: u32, span: u32) -> Result<(), AllocError> {
     records.extend_from_slice(&[kind, 0, 0, 0])?;
@@ -32,24 +32,20 @@ fn groups(heap: Global, count: u32) -> Result<Vec<u8>, AllocError> {
 }
 
 fn read_often(file: &[u8], rounds: u32) -> u64 {
-    let mut read_well = 0u64;
+    let mut games = 0u64;
     for _ in 0..rounds {
-        match read(file) {
-            Ok(document) => read_well = read_well.saturating_add(u64::from(
-                sheet_of(document).game,
-            )),
-            Err(_) => {}
+        if let Ok(document) = read(file) {
+            games = games.saturating_add(u64::from(document.contents().game));
         }
     }
-    read_well
+    games
 }
 
 fn write_often(sheet: Sheet<'_>, out: &mut [u8], rounds: u32) -> usize {
     let mut bytes = 0usize;
     for _ in 0..rounds {
-        match write(sheet, out) {
-            Ok(more) => bytes = bytes.saturating_add(more),
-            Err(_) => {}
+        if let Ok(more) = write(sheet, out) {
+            bytes = bytes.saturating_add(more);
         }
     }
     bytes
@@ -80,12 +76,14 @@ fn timed(rt: &HostRuntime, file: &[u8], sheet: Sheet<'_>, out: &mut [u8]) -> any
 fn main(rt: HostRuntime) -> anyhow::Result<()> {
     let records = groups(rt.alloc(), 100_000)?;
     let sheet = Sheet {
-        letter: b'R',
-        title: b"a million records",
-        records: records.as_slice(),
-        first: 3,
-        second: 0,
-        game: 1,
+        letter: Kind::Refutation.into(),
+        contents: Contents {
+            title: b"a million records",
+            records: records.as_slice(),
+            first: 3,
+            second: 0,
+            game: 1,
+        },
     };
     let mut file = vec![in rt.alloc(); 0u8; 12_000_053]?;
     let mut out = vec![in rt.alloc(); 0u8; 12_000_053]?;

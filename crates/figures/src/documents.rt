@@ -1,15 +1,8 @@
 // Two small documents, of one peg and two colours: what they say when they are read, and their bytes when they are written again.
 use crate::report::{Report, Stop};
-use document::{Contents, Document, read};
+use document::read;
 use samples::{REFUTATION, TREE};
 use writer::rewrite;
-
-fn contents_of<'a>(document: Document<'a>) -> Contents<'a> {
-    match document {
-        Document::Tree(contents) => contents,
-        Document::Refutation(contents) => contents,
-    }
-}
 
 // Whether a file is written again as it was read.
 fn is_kept(file: &[u8]) -> Result<bool, Stop> {
@@ -20,7 +13,7 @@ fn is_kept(file: &[u8]) -> Result<bool, Stop> {
 
 // A document whose records and figures are known.
 fn score(report: &mut Report<'_>, name: &str, file: &[u8], known: [u32; 3]) -> Result<(), Stop> {
-    let contents = contents_of(read(file)?);
+    let contents = read(file)?.contents();
     let records = u32::try_from(contents.records.len() / 12).unwrap_or(u32::MAX);
     let read = [records, contents.first, contents.second];
     report.compare_rows(name, &known, &read)?;
