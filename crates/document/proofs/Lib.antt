@@ -11,3 +11,4 @@ pub mod Slices
 pub mod Standing
 pub mod Planting
 pub mod Growing
+pub mod Chunks

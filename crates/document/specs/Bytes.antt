@@ -1,5 +1,5 @@
 -- Which bytes stand for which numbers, records and documents: every number has its most significant byte first. Assumes nothing.
-use Rattle.std.specs.Prelude.{ℕ, ◌+◌, ◌*◌, ◌/◌, ◌%◌, List, [], ◌∷◌, ◌++◌, length, slice_index}
+use Rattle.std.specs.Prelude.{ℕ, ◌+◌, ◌*◌, ◌/◌, ◌%◌, List, [], ◌∷◌, ◌++◌, length, slice_index, slice_index_or}
 use Rattle.document.specs.declared.record.Record.{Record}
 
 -- the two bytes of a number below 2 ^ 16
@@ -32,6 +32,10 @@ record_at bs i =
       value = four_at bs (12 * i + 4);
       span = four_at bs (12 * i + 8);
     }
+
+-- the record at a place, where each has its twelve bytes to itself
+abbrev pub chunk_at : List (List ℕ) → ℕ → Record
+chunk_at chunks i = record_at (slice_index_or chunks i []) 0
 
 -- the trailer, which ends a document: what it is, in which edition, how long its parts are, its figures, and which game it is for
 abbrev pub trailer : ℕ → ℕ → ℕ → ℕ → ℕ → ℕ → List ℕ

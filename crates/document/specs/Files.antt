@@ -1,5 +1,5 @@
 -- What the bytes of a file say, and the checks that a file is put to. Assumes nothing.
-use Rattle.std.specs.Prelude.{◌≡◌, ℕ, ◌+◌, ◌-◌, ◌*◌, ◌≤◌, List, [], ◌∷◌, ◌++◌, length, take, drop, slice_index, Option}
+use Rattle.std.specs.Prelude.{◌≡◌, ℕ, ◌+◌, ◌-◌, ◌*◌, ◌≤◌, List, [], ◌∷◌, ◌++◌, length, take, drop, slice_index, slice_index_or, Option}
 use Rattle.fault.specs.declared.Check.TheVariants.{FileTooShort, KindOrEdition, Lengths, TitleByte, Figure, RecordForm}
 use Rattle.fault.specs.declared.Fault.{Fault}
 use Rattle.document.specs.declared.kind.Kind.{Kind}
@@ -22,6 +22,20 @@ trailer_in bs =
       second = four_at bs (length bs - 24 + 12);
       distance = four_at bs (length bs - 24 + 16);
       game = four_at bs (length bs - 24 + 20);
+    }
+
+-- the fields of a trailer in six groups of four bytes
+abbrev pub trailer_by : List (List ℕ) → Trailer
+trailer_by words =
+    record {
+      letter = slice_index (slice_index_or words 0 []) 0;
+      edition = slice_index (slice_index_or words 0 []) 1;
+      title = two_at (slice_index_or words 0 []) 2;
+      count = four_at (slice_index_or words 1 []) 0;
+      first = four_at (slice_index_or words 2 []) 0;
+      second = four_at (slice_index_or words 3 []) 0;
+      distance = four_at (slice_index_or words 4 []) 0;
+      game = four_at (slice_index_or words 5 []) 0;
     }
 
 -- the lengths in a trailer are in range, and agree with one another and with the length of the file

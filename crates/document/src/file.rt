@@ -3,9 +3,8 @@ ghost use Rattle.std.specs.Prelude.{◌≡◌, ◌≤◌, length, IfOk, MatchRes
 ghost use Rattle.fault.specs.declared.Check.TheVariants.{FileTooShort, KindOrEdition, Lengths};
 ghost use Rattle.document.specs.Order.{Passed, Refused};
 ghost use Rattle.document.specs.Checks.{Taken, Checks, paper_of};
-ghost use Rattle.document.specs.Files.{trailer_in, Agreed, paper_in, opening_tests};
+ghost use Rattle.document.specs.Files.{trailer_by, trailer_in, Agreed, paper_in, opening_tests};
 
-use crate::fields::{four_at, two_at};
 use crate::kind::Kind;
 use crate::sheet::{Contents, FileFault, Sheet, check_letter, check_title};
 use fault::{Check, Place};
@@ -22,24 +21,40 @@ pub(crate) struct Trailer {
     game: u32,
 }
 
+impl From<[[u8; 4]; 6]> for Trailer {
+    ghost from_gives = { λ words t. t ≡ trailer_by words };
+
+    fn from(words: [[u8; 4]; 6]) -> Trailer {
+        let [
+            [letter, edition, t0, t1],
+            count,
+            first,
+            second,
+            distance,
+            game,
+        ] = words;
+        Trailer {
+            letter,
+            edition,
+            title: u16::from_be_bytes([t0, t1]),
+            count: u32::from_be_bytes(count),
+            first: u32::from_be_bytes(first),
+            second: u32::from_be_bytes(second),
+            distance: u32::from_be_bytes(distance),
+            game: u32::from_be_bytes(game),
+        }
+    }
+}
+
 fn trailer_of(file: &[u8]) -> Result<Trailer, FileFault>
     ensures room { Checks result (36 ≤ length file.now) FileTooShort }
     ensures trailer { IfOk result (λ t. t ≡ trailer_in file.now) }
 {
-    if file.len() < 36 {
-        return Err(Check::FileTooShort.at(Place::Nowhere).into());
+    let words = file.as_rchunks::<4>().1;
+    match words.last_chunk::<6>() {
+        Some(last) if 36 <= file.len() => Ok(Trailer::from(*last)),
+        _ => Err(Check::FileTooShort.at(Place::Nowhere).into()),
     }
-    let at = file.len() - 24;
-    Ok(Trailer {
-        letter: file[at],
-        edition: file[at + 1],
-        title: two_at(file, at + 2),
-        count: four_at(file, at + 4),
-        first: four_at(file, at + 8),
-        second: four_at(file, at + 12),
-        distance: four_at(file, at + 16),
-        game: four_at(file, at + 20),
-    })
 }
 
 fn check_edition(only: Option<Kind>, trailer: Trailer) -> Result<(), FileFault>

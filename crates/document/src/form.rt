@@ -1,11 +1,11 @@
 // Whether the records of a document are in form, and the lowest record that is not.
-ghost use Rattle.std.specs.Prelude.{◌≡◌, ◌*◌, ◌<◌, ◌≤◌, length, Decides};
-ghost use Rattle.document.specs.Bytes.{record_at};
+ghost use Rattle.std.specs.Prelude.{◌≡◌, ◌<◌, length, Decides};
+ghost use Rattle.document.specs.Bytes.{chunk_at};
 ghost use Rattle.document.specs.Forms.{Shaped, Unasked, Plain, Blames, Faulty};
 ghost use Rattle.document.specs.Walks.{Least, lower};
 
 use crate::kind::Kind;
-use crate::record::{Record, record_at};
+use crate::record::Record;
 use crate::row::{Misfit, lowest_late};
 
 fn is_shaped(kind: Kind, item: Record) -> bool
@@ -36,18 +36,18 @@ fn is_plain(kind: Kind, item: Record, count: usize, i: usize) -> bool
 }
 
 // The lowest record that is faulty on account of record `i`.
-fn lowest_blamed(kind: Kind, records: &[u8], count: usize, i: usize) -> Option<usize>
-    requires { (i < count) × (12 * count ≤ length records.now) }
-    ensures { Least (Blames kind (record_at records.now) count i) result }
+fn lowest_blamed(kind: Kind, records: &[[u8; 12]], i: usize) -> Option<usize>
+    requires { i < length records.now }
+    ensures { Least (Blames kind (chunk_at records.now) (length records.now) i) result }
 {
-    let item = record_at(records, i);
+    let item = Record::from(records[i]);
     let span = item.span as usize;
     if span > i {
         return Some(i);
     }
     match lowest_late(kind, records, i - span, i) {
         Ok(Some(place)) => Some(place),
-        Ok(None) if is_plain(kind, item, count, i) => None,
+        Ok(None) if is_plain(kind, item, records.len(), i) => None,
         Ok(None) | Err(Misfit) => Some(i),
     }
 }
@@ -63,13 +63,12 @@ fn lower_of(a: Option<usize>, b: Option<usize>) -> Option<usize>
 }
 
 // The lowest faulty record of a document.
-pub(crate) fn lowest_faulty(kind: Kind, records: &[u8], count: usize) -> Option<usize>
-    requires { 12 * count ≤ length records.now }
-    ensures { Least (Faulty kind (record_at records.now) count) result }
+pub(crate) fn lowest_faulty(kind: Kind, records: &[[u8; 12]]) -> Option<usize>
+    ensures { Least (Faulty kind (chunk_at records.now) (length records.now)) result }
 {
     let mut lowest = None;
-    for i in 0..count {
-        lowest = lower_of(lowest, lowest_blamed(kind, records, count, i));
+    for i in 0..records.len() {
+        lowest = lower_of(lowest, lowest_blamed(kind, records, i));
     }
     lowest
 }

@@ -58,9 +58,9 @@ pub fn judged<'a>(sheet: Sheet<'a>) -> Result<Document<'a>, FileFault>
 {
     let contents = sheet.contents;
     let kind = check_letter(None, sheet.letter)?;
-    let count = check_lengths(contents.title, contents.records)?;
+    check_lengths(contents.title, contents.records)?;
     check_title(contents.title)?;
     check_figures(kind, contents.first, contents.second)?;
-    check_records(kind, contents.records, count)?;
+    check_records(kind, contents.records.as_chunks::<12>().0)?;
     Ok(document_of(kind, contents))
 }

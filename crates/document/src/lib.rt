@@ -1,7 +1,6 @@
 // Documents of code-breaking games: trees and refutations, read from bytes, put to their checks, and written to bytes.
 #![tactic(auto)]
 
-mod fields;
 mod file;
 mod form;
 mod judge;

@@ -1,13 +1,12 @@
 // The records of a document.
-ghost use Rattle.std.specs.Prelude.{◌≡◌, ◌+◌, ◌*◌, ◌/◌, ◌<◌, ◌≤◌, length, MatchOption};
-ghost use Rattle.document.specs.Bytes.{record_at};
+ghost use Rattle.std.specs.Prelude.{◌≡◌, ◌/◌, ◌<◌, ◌≤◌, length, MatchOption};
+ghost use Rattle.document.specs.Bytes.{record_at, record_bytes};
 ghost use Rattle.document.specs.Forms.{key};
 
-use crate::fields::{four_at, two_at};
 use crate::kind::Kind;
 
 // One record as it stands in a file; in form, its gap is zero.
-#[derive(Clone, Copy)]
+#[derive(Clone, Copy, PartialEq, Eq, Debug)]
 pub struct Record {
     pub kind: u8,
     pub answer: u8,
@@ -16,17 +15,42 @@ pub struct Record {
     pub span: u32,
 }
 
-pub(crate) fn record_at(records: &[u8], i: usize) -> Record
-    requires { 12 * i + 12 ≤ length records.now }
-    ensures { result ≡ record_at records.now i }
-{
-    let at = 12 * i;
-    Record {
-        kind: records[at],
-        answer: records[at + 1],
-        gap: two_at(records, at + 2),
-        value: four_at(records, at + 4),
-        span: four_at(records, at + 8),
+impl From<[u8; 12]> for Record {
+    ghost from_gives = { λ bytes item. item ≡ record_at bytes 0 };
+
+    fn from(bytes: [u8; 12]) -> Record {
+        let [kind, answer, g0, g1, v0, v1, v2, v3, s0, s1, s2, s3] = bytes;
+        Record {
+            kind,
+            answer,
+            gap: u16::from_be_bytes([g0, g1]),
+            value: u32::from_be_bytes([v0, v1, v2, v3]),
+            span: u32::from_be_bytes([s0, s1, s2, s3]),
+        }
+    }
+}
+
+impl From<Record> for [u8; 12] {
+    ghost from_gives = { λ item bytes. bytes ≡ record_bytes item };
+
+    fn from(item: Record) -> [u8; 12] {
+        let [g0, g1] = item.gap.to_be_bytes();
+        let [v0, v1, v2, v3] = item.value.to_be_bytes();
+        let [s0, s1, s2, s3] = item.span.to_be_bytes();
+        [
+            item.kind,
+            item.answer,
+            g0,
+            g1,
+            v0,
+            v1,
+            v2,
+            v3,
+            s0,
+            s1,
+            s2,
+            s3,
+        ]
     }
 }
 
@@ -44,9 +68,6 @@ pub(crate) fn key_of(kind: Kind, item: Record) -> u32
 pub fn record_in(records: &[u8], i: usize) -> Option<Record>
     ensures { MatchOption result (length records.now / 12 ≤ i) (λ e. (i < length records.now / 12) × (e ≡ record_at records.now i)) }
 {
-    if i < records.len() / 12 {
-        Some(record_at(records, i))
-    } else {
-        None
-    }
+    let bytes = records.as_chunks::<12>().0.get(i)?;
+    Some(Record::from(*bytes))
 }

@@ -1,7 +1,7 @@
 // What a document says, and the checks of it one by one.
 ghost use Rattle.std.specs.Prelude.{◌≡◌, ◌*◌, ◌/◌, ◌≤◌, length, IfOk};
 ghost use Rattle.fault.specs.declared.Check.TheVariants.{KindOrEdition, Lengths, TitleByte, Figure, RecordForm};
-ghost use Rattle.document.specs.Bytes.{record_at};
+ghost use Rattle.document.specs.Bytes.{chunk_at};
 ghost use Rattle.document.specs.Forms.{Faulty};
 ghost use Rattle.document.specs.Checks.{kind_of, Taken, Checks, ChecksEach, Sized, Printable, Ranged};
 
@@ -53,14 +53,12 @@ pub(crate) fn check_letter(only: Option<Kind>, letter: u8) -> Result<Kind, FileF
     }
 }
 
-// Answers how many records there are.
-pub(crate) fn check_lengths(title: &[u8], records: &[u8]) -> Result<usize, FileFault>
-    ensures sized { Checks result (Sized title.now records.now) Lengths }
-    ensures count { IfOk result (λ n. n ≡ length records.now / 12) }
+pub(crate) fn check_lengths(title: &[u8], records: &[u8]) -> Result<(), FileFault>
+    ensures { Checks result (Sized title.now records.now) Lengths }
 {
     let count = records.len() / 12;
     if title.len() <= 40 && records.len() == 12 * count && 1 <= count && count <= 1_048_576 {
-        Ok(count)
+        Ok(())
     } else {
         Err(Check::Lengths.at(Place::Nowhere).into())
     }
@@ -91,11 +89,11 @@ pub(crate) fn check_figures(kind: Kind, first: u32, second: u32) -> Result<(), F
     }
 }
 
-pub(crate) fn check_records(kind: Kind, records: &[u8], count: usize) -> Result<(), FileFault>
-    requires { (12 * count ≤ length records.now) × (count ≤ 1048576) }
-    ensures { ChecksEach result (Faulty kind (record_at records.now) count) RecordForm }
+pub(crate) fn check_records(kind: Kind, records: &[[u8; 12]]) -> Result<(), FileFault>
+    requires { length records.now ≤ 1048576 }
+    ensures { ChecksEach result (Faulty kind (chunk_at records.now) (length records.now)) RecordForm }
 {
-    match lowest_faulty(kind, records, count) {
+    match lowest_faulty(kind, records) {
         None => Ok(()),
         Some(place) => Err(Check::RecordForm.at(Place::Record(place as u32)).into()),
     }

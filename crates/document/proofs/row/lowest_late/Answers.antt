@@ -1,5 +1,5 @@
 use Rattle.std.proofs.Common.{ap, ◌∙◌, arith}
-use Rattle.document.specs.Bytes.{record_at}
+use Rattle.document.specs.Bytes.{chunk_at}
 use Rattle.document.specs.Forms.{key}
 use Rattle.document.proofs.Rows.{turn_broken, turn_late, turn_rising, walk_done}
 use Rattle.document.proofs.row.lowest_late.Goals as goal
@@ -7,29 +7,29 @@ use Rattle.document.proofs.row.lowest_late.Goals.{else-low-next-via-then-low-nex
 
 pub returns-then-span-end : goal.returns-then-span-end
 returns-then-span-end c =
-    turn_broken c.args.kind (record_at c.args.records.now) c.args.low c.loop-end.found c.loop-end.end c.args.i _
-    c.loop-end.invariant.2 c.record_at-child.ensures (omega arith) (omega arith) _
+    turn_broken c.args.kind (chunk_at c.args.records.now) c.args.low c.loop-end.found c.loop-end.end c.args.i _
+    c.loop-end.invariant.2 c.from-child.ensures (omega arith) (omega arith) _
 
 pub loop-end-preserved-then-key_of : goal.loop-end-preserved-then-key_of
 loop-end-preserved-then-key_of c = (
   omega arith,
   omega arith,
-  turn_late c.args.kind (record_at c.args.records.now) c.args.low c.loop-end.found c.loop-end.end c.args.i _
-      c.loop-end.invariant.2 c.record_at-child.ensures (omega arith) (omega arith) (omega arith)
-      (omega (arith, c.key_of.ensures, c.key_of-then-low-next.ensures ∙ ap (key c.args.kind) c.record_at.ensures)),
+  turn_late c.args.kind (chunk_at c.args.records.now) c.args.low c.loop-end.found c.loop-end.end c.args.i _
+      c.loop-end.invariant.2 c.from-child.ensures (omega arith) (omega arith) (omega arith)
+      (omega (arith, c.key_of.ensures, c.key_of-then-low-next.ensures ∙ ap (key c.args.kind) c.from.ensures)),
 )
 
 pub loop-end-preserved : goal.loop-end-preserved
 loop-end-preserved c = (
   omega arith,
   omega arith,
-  turn_rising c.args.kind (record_at c.args.records.now) c.args.low c.loop-end.found c.loop-end.end c.args.i _
-      c.loop-end.invariant.2 c.record_at-child.ensures (omega arith) (omega arith)
+  turn_rising c.args.kind (chunk_at c.args.records.now) c.args.low c.loop-end.found c.loop-end.end c.args.i _
+      c.loop-end.invariant.2 c.from-child.ensures (omega arith) (omega arith)
       (λ more. elim c.else-low-next.branch [
-        | else-low-next-via-then-low-next+else-key_of w ↦ omega (arith, w.if-key_of.false, w.key_of.ensures, w.key_of-then-low-next.ensures ∙ ap (key c.args.kind) w.record_at.ensures)
+        | else-low-next-via-then-low-next+else-key_of w ↦ omega (arith, w.if-key_of.false, w.key_of.ensures, w.key_of-then-low-next.ensures ∙ ap (key c.args.kind) w.from.ensures)
         | else-low-next-via-else-low-next w ↦ absurd (omega (arith, w.if-low-next.false))
       ]),
 )
 
 pub returns : goal.returns
-returns c = walk_done c.args.kind (record_at c.args.records.now) c.args.low c.loop-end.found c.loop-end.end c.args.i c.loop-end.invariant.2 (omega arith)
+returns c = walk_done c.args.kind (chunk_at c.args.records.now) c.args.low c.loop-end.found c.loop-end.end c.args.i c.loop-end.invariant.2 (omega arith)

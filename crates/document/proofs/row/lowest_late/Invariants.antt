@@ -1,6 +1,6 @@
 use Rattle.std.proofs.Common.{ℕ, ◌≤◌, Option, Result}
 use Rattle.document.specs.declared.row.Misfit.{Misfit}
-use Rattle.document.specs.Bytes.{record_at}
+use Rattle.document.specs.Bytes.{chunk_at}
 use Rattle.document.specs.Walks.{Tells}
 use Rattle.document.proofs.Rows.{over}
 use Rattle.document.proofs.row.lowest_late.Given as goal
@@ -9,7 +9,7 @@ use Rattle.document.proofs.row.lowest_late.Given as goal
 abbrev pub invariant-loop-end : goal.invariant-loop-end
 invariant-loop-end l =
     (l.low ≤ l.end) × (l.end ≤ l.i)
-    × ((r : Result (Option ℕ) Misfit) → Tells l.kind (record_at l.records) l.low l.end r → Tells l.kind (record_at l.records) l.low l.i (over l.found r))
+    × ((r : Result (Option ℕ) Misfit) → Tells l.kind (chunk_at l.records) l.low l.end r → Tells l.kind (chunk_at l.records) l.low l.i (over l.found r))
 
 abbrev pub decreases-loop-end : goal.decreases-loop-end
 decreases-loop-end l = l.end

@@ -1,7 +1,7 @@
-use Rattle.std.proofs.Common.{arith}
-use Rattle.document.specs.Bytes.{record_at}
+use Rattle.std.proofs.Common.{length, arith}
+use Rattle.document.specs.Bytes.{chunk_at}
 use Rattle.document.proofs.Blames.{faulty_below}
 use Rattle.document.proofs.sheet.check_records.Goals as goal
 
 pub overflow_cast-place : goal.overflow_cast-place
-overflow_cast-place c = omega (arith, faulty_below c.args.kind (record_at c.args.records.now) c.args.count c.in-Some.place c.in-Some.ensures.0)
+overflow_cast-place c = omega (arith, faulty_below c.args.kind (chunk_at c.args.records.now) (length c.args.records.now) c.in-Some.place c.in-Some.ensures.0)
