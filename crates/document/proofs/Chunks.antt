@@ -2,7 +2,7 @@
 use Rattle.std.proofs.Common.{◌≡◌, ℕ, zero, suc, ◌+◌, ◌-◌, ◌*◌, ◌/◌, ◌%◌, ◌<◌, ◌≤◌, List, [], length, get_or, drop, sym, ap, ◌∙◌, arith}
 use Rattle.std.specs.Simd.{first_chunks}
 use Rattle.std.proofs.lemmas.List.{get_or-take, get_or-drop, get_or_past, length-drop}
-use Rattle.document.specs.Bytes.{two_at, four_at, record_at, chunk_at}
+use Rattle.document.specs.Bytes.{two_at, four_at, kind_in, record_at, chunk_at}
 use Rattle.document.specs.Files.{trailer_by, trailer_in}
 
 -- byte j of group i, and none past the bytes where there is no such group
@@ -44,7 +44,7 @@ module _ (bs : List ℕ) (k : ℕ) where
       let gap = two_in group bs 12 (12 * i) same 2 (12 * i + 2) (omega arith) (omega arith) in
       let value = four_in group bs 12 (12 * i) same 4 (12 * i + 4) (omega arith) (omega arith) in
       let span = four_in group bs 12 (12 * i) same 8 (12 * i + 8) (omega arith) (omega arith) in
-      λ t. record { kind = kind t; answer = answer t; gap = gap t; value = value t; span = span t }
+      λ t. record { kind = kind_in (kind t); answer = answer t; gap = gap t; value = value t; span = span t }
 
   -- the records of whole groups, one and all
   pub chunk_records : length bs ≡ 12 * k → chunk_at (first_chunks 12 k bs) ≡ record_at bs

@@ -6,6 +6,8 @@ use Rattle.std.proofs.lemmas.Bool.{cases_lt, cases_eq}
 use Rattle.document.specs.declared.kind.Kind.{Kind}
 use Rattle.document.specs.declared.kind.Kind.TheVariants.{Tree, Refutation}
 use Rattle.document.specs.declared.record.Record.{Record}
+use Rattle.document.specs.declared.record.RecordKind.{RecordKind}
+use Rattle.document.specs.declared.record.RecordKind.TheVariants.{Leaf, Guess, Count, Split, Other}
 use Rattle.document.specs.Bytes.{record_at, record_bytes}
 use Rattle.document.specs.Forms.{Shaped, Unasked, Plain, Formed, Row, Children, Faulty}
 use Rattle.document.specs.Trees.{Forest, none, grown, weight, records_of, Fitting, Lower, Grows, Rooted, Planted}
@@ -29,9 +31,38 @@ one_of P Q (inr p) (inr q) = inr (λ x. ⊎_elim p q x)
 less : (a b : ℕ) → Decided (a < b)
 less a b = ⊎_elim (λ (h : a < b). inl h) (λ (h : b ≤ a). inr (λ l. omega arith)) (cases_lt a b)
 
+-- the kinds of records in a row
+abbrev number_of_kind : RecordKind → ℕ
+number_of_kind Leaf = 0
+number_of_kind Guess = 1
+number_of_kind Count = 2
+number_of_kind Split = 3
+number_of_kind (Other byte) = suc (suc (suc (suc byte)))
+
+abbrev kind_of_number : ℕ → RecordKind
+kind_of_number zero = Leaf
+kind_of_number (suc zero) = Guess
+kind_of_number (suc (suc zero)) = Count
+kind_of_number (suc (suc (suc zero))) = Split
+kind_of_number (suc (suc (suc (suc byte)))) = Other byte
+
+kind_again : (k : RecordKind) → kind_of_number (number_of_kind k) ≡ k
+kind_again Leaf = refl
+kind_again Guess = refl
+kind_again Count = refl
+kind_again Split = refl
+kind_again (Other byte) = refl
+
+kind_decided : (a b : RecordKind) → Decided (a ≡ b)
+kind_decided a b =
+    ⊎_elim
+    (λ (e : number_of_kind a ≡ number_of_kind b). inl (sym (kind_again a) ∙ ap kind_of_number e ∙ kind_again b))
+    (λ ne. inr (λ e. ne (ap number_of_kind e)))
+    (cases_eq (number_of_kind a) (number_of_kind b))
+
 shape_decided : (kind : Kind) (e : Record) → Decided (Shaped kind e)
-shape_decided Tree e = one_of _ _ (both _ _ (cases_eq e.kind 0) (cases_eq e.span 0)) (both _ _ (cases_eq e.kind 1) (less 0 e.span))
-shape_decided Refutation e = one_of _ _ (both _ _ (cases_eq e.kind 2) (cases_eq e.span 0)) (cases_eq e.kind 3)
+shape_decided Tree e = one_of _ _ (both _ _ (kind_decided e.kind Leaf) (cases_eq e.span 0)) (both _ _ (kind_decided e.kind Guess) (less 0 e.span))
+shape_decided Refutation e = one_of _ _ (both _ _ (kind_decided e.kind Count) (cases_eq e.span 0)) (kind_decided e.kind Split)
 
 unasked_decided : (kind : Kind) (e : Record) → Decided (Unasked kind e)
 unasked_decided Tree e = cases_eq e.answer 0

@@ -3,18 +3,30 @@ use Rattle.std.proofs.Common.{◌≡◌, ℕ, ◌+◌, ◌-◌, ◌*◌, ◌<◌
 use Rattle.document.specs.declared.kind.Kind.{Kind}
 use Rattle.document.specs.declared.kind.Kind.TheVariants.{Tree, Refutation}
 use Rattle.document.specs.declared.record.Record.{Record}
-use Rattle.document.specs.Bytes.{record_at}
+use Rattle.document.specs.declared.record.RecordKind.{RecordKind}
+use Rattle.document.specs.declared.record.RecordKind.TheVariants.{Leaf, Guess, Count, Split, Other}
+use Rattle.document.specs.Bytes.{kind_byte, kind_in, record_at}
 use Rattle.document.specs.Forms.{Unasked, Formed, Behind, Faulty}
-use Rattle.document.specs.Trees.{Forest, none, grown, weight, records_of, Grows, Rooted, Planted}
+use Rattle.document.specs.Trees.{Forest, none, grown, weight, records_of, Fitting, Grows, Rooted, Planted}
 use Rattle.document.proofs.Rows.{row_same}
 use Rattle.document.proofs.Slices.{slice, slice_length, slice_append, slice_there, joined_length, AllFit, fit_append}
 use Rattle.document.proofs.Standing.{records_length, same_parts, Good, stands}
+
+kind_fits : (kind : Kind) (k : RecordKind) (beneath : Forest) → Fitting kind k beneath → kind_in (kind_byte k) ≡ k
+kind_fits kind Leaf beneath fitting = refl
+kind_fits kind Guess beneath fitting = refl
+kind_fits kind Count beneath fitting = refl
+kind_fits kind Split beneath fitting = refl
+kind_fits Tree (Other byte) beneath (inl (is, empty)) = cc
+kind_fits Tree (Other byte) beneath (inr (is, some)) = cc
+kind_fits Refutation (Other byte) beneath (inl (is, empty)) = cc
+kind_fits Refutation (Other byte) beneath (inr is) = cc
 
 all_fit : (kind : Kind) (f : Forest) → Grows kind f → weight f ≤ 1048576 → AllFit (records_of f)
 all_fit kind none grows few = tt
 all_fit kind (grown before k answer value beneath) grows few =
     fit_append (records_of before) _ (all_fit kind before grows.0 (omega arith))
-    (fit_append (records_of beneath) _ (all_fit kind beneath grows.1 (omega arith)) ((omega arith, grows.5, omega arith), tt))
+    (fit_append (records_of beneath) _ (all_fit kind beneath grows.1 (omega arith)) ((kind_fits kind k beneath grows.2, omega arith, grows.5, omega arith), tt))
 
 unasked : (kind : Kind) (e : Record) (answer value : ℕ) → e.answer ≡ answer → e.value ≡ value → Rooted kind answer value → Unasked kind e
 unasked Tree e answer value a v root = a ∙ root

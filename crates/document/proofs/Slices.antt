@@ -2,8 +2,10 @@
 use Rattle.std.proofs.Common.{◌≡◌, ℕ, zero, suc, ◌+◌, ◌*◌, ◌<◌, ◌≤◌, List, [], ◌∷◌, ◌++◌, length, get_or, drop, sym, refl, ap, ◌∙◌, subst, arith}
 use Rattle.std.specs.List.{flat_map}
 use Rattle.std.proofs.lemmas.List.{append_assoc, append-nil, drop_all, length-append, get_or-append-add}
+use Rattle.std.proofs.lemmas.Bool.Decides.{nat_tests}
 use Rattle.document.specs.declared.record.Record.{Record}
-use Rattle.document.specs.Bytes.{record_at, record_bytes}
+use Rattle.std.proofs.lemmas.Bool.Decides.{nat_tests}
+use Rattle.document.specs.Bytes.{kind_byte, kind_in, record_at, record_bytes}
 use Rattle.document.proofs.Coding.{front, two_front, four_front, two_field, four_field}
 
 -- the records at m places from low on
@@ -26,6 +28,10 @@ module _ (at : ℕ → Record) where
   pub slice_one : (low : ℕ) → slice at low 1 ≡ at low ∷ []
   slice_one low = refl
 
+-- the byte of the kind that a byte stands for
+kind_same : (byte : ℕ) → kind_byte (kind_in byte) ≡ byte
+kind_same byte = grind (arith, nat_tests)
+
 pub joined_append : (xs ys : List Record) → flat_map record_bytes (xs ++ ys) ≡ flat_map record_bytes xs ++ flat_map record_bytes ys
 joined_append [] ys = refl
 joined_append (x ∷ xs) ys = ap (λ l. record_bytes x ++ l) (joined_append xs ys) ∙ sym (append_assoc (record_bytes x) (flat_map record_bytes xs) (flat_map record_bytes ys))
@@ -41,7 +47,7 @@ module _ (bs : List ℕ) (bytes : (i : ℕ) → get_or bs i 0 < 256) where
       let span = four_front bs bytes (12 * i + 8) j (omega arith) l rest left in
       let value = four_front bs bytes (12 * i + 4) (12 * i + 8) (omega arith) (omega arith) _ span in
       let gap = two_front bs bytes (12 * i + 2) (12 * i + 4) (omega arith) (omega arith) _ value in
-      front bs (12 * i) (12 * i + 1) refl (omega arith) _ refl _ (front bs (12 * i + 1) (12 * i + 2) (omega arith) (omega arith) _ refl _ gap)
+      front bs (12 * i) (12 * i + 1) refl (omega arith) _ (kind_same (get_or bs (12 * i) 0)) _ (front bs (12 * i + 1) (12 * i + 2) (omega arith) (omega arith) _ refl _ gap)
 
   slice_front : (m i : ℕ) → 12 * (i + m) ≤ length bs → flat_map record_bytes (slice (record_at bs) i m) ++ drop (12 * (i + m)) bs ≡ drop (12 * i) bs
   slice_front zero i l = let e : i + 0 ≡ i = omega arith in ap (λ k. drop (12 * k) bs) e
@@ -59,9 +65,9 @@ module _ (bs : List ℕ) (bytes : (i : ℕ) → get_or bs i 0 < 256) where
       ∙ ap (λ l. flat_map record_bytes (slice (record_at bs) 0 n) ++ l) (sym (drop_all (12 * (0 + n)) bs (omega arith)))
       ∙ all
 
--- the fields of a record that take more than a byte fit their bytes
+-- the fields of a record are those that its bytes stand for
 abbrev pub Fit : Record → Type 0
-Fit x = (x.gap < 65536) × (x.value < 4294967296) × (x.span < 4294967296)
+Fit x = (kind_in (kind_byte x.kind) ≡ x.kind) × (x.gap < 65536) × (x.value < 4294967296) × (x.span < 4294967296)
 
 abbrev pub AllFit : List Record → Type 0
 AllFit [] = Unit {0}
@@ -77,11 +83,11 @@ module _ (bs : List ℕ) where
   record_there before x rest i is long fit =
       let byte : (k j : ℕ) → j ≡ 12 * i + k → get_or bs j 0 ≡ get_or (record_bytes x ++ rest) k 0 =
       λ k j e. ap (λ l. get_or l j 0) is ∙ ap (λ n. get_or (before ++ (record_bytes x ++ rest)) n 0) (e ∙ ap (λ n. n + k) (sym long)) ∙ get_or-append-add before (record_bytes x ++ rest) k 0 in
-      let kind = byte 0 (12 * i) (omega arith) in
+      let kind = ap kind_in (byte 0 (12 * i) (omega arith)) ∙ fit.0 in
       let answer = byte 1 (12 * i + 1) (omega arith) in
-      let gap = two_field bs (12 * i + 2) x.gap fit.0 (byte 2 _ (omega arith)) (byte 3 _ (omega arith)) in
-      let value = four_field bs (12 * i + 4) x.value fit.1 (byte 4 _ (omega arith)) (byte 5 _ (omega arith)) (byte 6 _ (omega arith)) (byte 7 _ (omega arith)) in
-      let span = four_field bs (12 * i + 8) x.span fit.2 (byte 8 _ (omega arith)) (byte 9 _ (omega arith)) (byte 10 _ (omega arith)) (byte 11 _ (omega arith)) in
+      let gap = two_field bs (12 * i + 2) x.gap fit.1 (byte 2 _ (omega arith)) (byte 3 _ (omega arith)) in
+      let value = four_field bs (12 * i + 4) x.value fit.2 (byte 4 _ (omega arith)) (byte 5 _ (omega arith)) (byte 6 _ (omega arith)) (byte 7 _ (omega arith)) in
+      let span = four_field bs (12 * i + 8) x.span fit.3 (byte 8 _ (omega arith)) (byte 9 _ (omega arith)) (byte 10 _ (omega arith)) (byte 11 _ (omega arith)) in
       λ k. record { kind = kind k; answer = answer k; gap = gap k; value = value k; span = span k }
 
   pub slice_there : (xs : List Record) (before : List ℕ) (i : ℕ) → bs ≡ before ++ flat_map record_bytes xs → length before ≡ 12 * i → AllFit xs → slice (record_at bs) i (length xs) ≡ xs

@@ -5,6 +5,7 @@ use Rattle.std.proofs.lemmas.Bool.{cases_lt}
 use Rattle.document.specs.declared.kind.Kind.{Kind}
 use Rattle.document.specs.declared.kind.Kind.TheVariants.{Tree, Refutation}
 use Rattle.document.specs.declared.record.Record.{Record}
+use Rattle.document.specs.declared.record.RecordKind.{RecordKind}
 use Rattle.document.specs.Forms.{key, Shaped, Row, Children, Begins, Behind}
 use Rattle.document.specs.Trees.{Forest, none, grown, weight, records_of, Fitting, Lower, Grows}
 use Rattle.document.proofs.Slices.{slice, slice_length, slice_append}
@@ -49,7 +50,7 @@ pub record Level (kind : Kind) (at : ℕ → Record) (low end : ℕ) (f : Forest
   pub rises : Rises kind at cs
   pub headed : Headed at cs f
 
-shaped : (kind : Kind) (k : ℕ) (beneath : Forest) (e : Record) → e.kind ≡ k → e.span ≡ weight beneath → Fitting kind k beneath → Shaped kind e
+shaped : (kind : Kind) (k : RecordKind) (beneath : Forest) (e : Record) → e.kind ≡ k → e.span ≡ weight beneath → Fitting kind k beneath → Shaped kind e
 shaped Tree k beneath e is span (inl (leaf, empty)) = inl (is ∙ leaf, span ∙ ap weight empty)
 shaped Tree k none e is span (inr (guess, some)) = absurd (some refl)
 shaped Tree k (grown b k' a v c) e is span (inr (guess, some)) = inr (is ∙ guess, omega arith)
@@ -67,7 +68,7 @@ lifted Refutation at (x ∷ xs) (grown before k a v beneath) c b answer value ia
 
 module _ (kind : Kind) (at : ℕ → Record) where
   -- the last tree of a row: its record, at c, stands after those of the trees before it, up to m, and those beneath it
-  module _ (low m c : ℕ) (before : Forest) (k answer value : ℕ) (beneath : Forest)
+  module _ (low m c : ℕ) (before : Forest) (k : RecordKind) (answer value : ℕ) (beneath : Forest)
       (here : at c ≡ record { kind = k; answer = answer; gap = 0; value = value; span = weight beneath })
       (left : low ≤ m) (end : m + weight beneath ≡ c)
       (fitting : Fitting kind k beneath) (lower : Lower kind before answer value)

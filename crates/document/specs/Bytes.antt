@@ -1,6 +1,8 @@
 -- Which bytes stand for which numbers, records and documents: every number has its most significant byte first. Assumes nothing.
-use Rattle.std.specs.Prelude.{ℕ, ◌+◌, ◌*◌, ◌/◌, ◌%◌, List, [], ◌∷◌, ◌++◌, length, slice_index, slice_index_or}
+use Rattle.std.specs.Prelude.{ℕ, ◌+◌, ◌*◌, ◌/◌, ◌%◌, List, [], ◌∷◌, ◌++◌, length, if◌then◌else◌, ◌==◌, slice_index, slice_index_or}
 use Rattle.document.specs.declared.record.Record.{Record}
+use Rattle.document.specs.declared.record.RecordKind.{RecordKind}
+use Rattle.document.specs.declared.record.RecordKind.TheVariants.{Leaf, Guess, Count, Split, Other}
 
 -- the two bytes of a number below 2 ^ 16
 abbrev pub two : ℕ → List ℕ
@@ -18,15 +20,28 @@ two_at bs i = slice_index bs i * 256 + slice_index bs (i + 1)
 abbrev pub four_at : List ℕ → ℕ → ℕ
 four_at bs i = slice_index bs i * 16777216 + slice_index bs (i + 1) * 65536 + slice_index bs (i + 2) * 256 + slice_index bs (i + 3)
 
+-- the byte of a record's kind
+abbrev pub kind_byte : RecordKind → ℕ
+kind_byte Leaf = 0
+kind_byte Guess = 1
+kind_byte Count = 2
+kind_byte Split = 3
+kind_byte (Other byte) = byte
+
+-- the kind that a byte stands for: any other byte is kept as it is
+abbrev pub kind_in : ℕ → RecordKind
+kind_in byte =
+    if byte == 0 then Leaf else (if byte == 1 then Guess else (if byte == 2 then Count else (if byte == 3 then Split else Other byte)))
+
 -- the twelve bytes of a record
 abbrev pub record_bytes : Record → List ℕ
-record_bytes e = e.kind ∷ e.answer ∷ two e.gap ++ (four e.value ++ four e.span)
+record_bytes e = kind_byte e.kind ∷ e.answer ∷ two e.gap ++ (four e.value ++ four e.span)
 
 -- the record whose bytes begin at twelve times its index
 abbrev pub record_at : List ℕ → ℕ → Record
 record_at bs i =
     record {
-      kind = slice_index bs (12 * i);
+      kind = kind_in (slice_index bs (12 * i));
       answer = slice_index bs (12 * i + 1);
       gap = two_at bs (12 * i + 2);
       value = four_at bs (12 * i + 4);

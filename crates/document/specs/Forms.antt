@@ -3,16 +3,17 @@ use Rattle.std.specs.Prelude.{◌≡◌, ℕ, ◌+◌, ◌-◌, ◌<◌, ◌≤�
 use Rattle.document.specs.declared.kind.Kind.{Kind}
 use Rattle.document.specs.declared.kind.Kind.TheVariants.{Tree, Refutation}
 use Rattle.document.specs.declared.record.Record.{Record}
+use Rattle.document.specs.declared.record.RecordKind.TheVariants.{Leaf, Guess, Count, Split}
 
 -- what the siblings of a document rise by
 abbrev pub key : Kind → Record → ℕ
 key Tree e = e.answer
 key Refutation e = e.value
 
--- the kinds that records of a document may have: a leaf (0) and a count (2) have no span, a guess (1) has some, a split (3) may have any
+-- the kinds that records of a document may have: a leaf and a count have no span, a guess has some, a split may have any
 abbrev pub Shaped : Kind → Record → Type 0
-Shaped Tree e = ((e.kind ≡ 0) × (e.span ≡ 0)) ⊎ ((e.kind ≡ 1) × (0 < e.span))
-Shaped Refutation e = ((e.kind ≡ 2) × (e.span ≡ 0)) ⊎ (e.kind ≡ 3)
+Shaped Tree e = ((e.kind ≡ Leaf) × (e.span ≡ 0)) ⊎ ((e.kind ≡ Guess) × (0 < e.span))
+Shaped Refutation e = ((e.kind ≡ Count) × (e.span ≡ 0)) ⊎ (e.kind ≡ Split)
 
 -- what the root has zero
 abbrev pub Unasked : Kind → Record → Type 0

@@ -4,13 +4,15 @@ use Rattle.std.specs.List.{flat_map}
 use Rattle.document.specs.declared.kind.Kind.{Kind}
 use Rattle.document.specs.declared.kind.Kind.TheVariants.{Tree, Refutation}
 use Rattle.document.specs.declared.record.Record.{Record}
+use Rattle.document.specs.declared.record.RecordKind.{RecordKind}
+use Rattle.document.specs.declared.record.RecordKind.TheVariants.{Leaf, Guess, Count, Split}
 use Rattle.document.specs.Bytes.{Paper, encode, record_bytes}
 use Rattle.document.specs.Checks.{kind_of, Taken, Printable, Ranged}
 
 -- a row of trees: none, or a row and after it one more tree, which is a kind, an answer and a value with the row of trees beneath
 pub data Forest : Type 0 where
   none : Forest
-  grown : Forest → ℕ → ℕ → ℕ → Forest → Forest
+  grown : Forest → RecordKind → ℕ → ℕ → Forest → Forest
 
 -- how many records a row of trees has
 abbrev pub weight : Forest → ℕ
@@ -23,10 +25,10 @@ records_of none = []
 records_of (grown before kind answer value beneath) =
     records_of before ++ (records_of beneath ++ (record { kind = kind; answer = answer; gap = 0; value = value; span = weight beneath } ∷ []))
 
--- a leaf (0) and a count (2) have nothing beneath, a guess (1) has something, a split (3) may have anything
-abbrev pub Fitting : Kind → ℕ → Forest → Type 0
-Fitting Tree kind beneath = ((kind ≡ 0) × (beneath ≡ none)) ⊎ ((kind ≡ 1) × (beneath ≢ none))
-Fitting Refutation kind beneath = ((kind ≡ 2) × (beneath ≡ none)) ⊎ (kind ≡ 3)
+-- a leaf and a count have nothing beneath, a guess has something, a split may have anything
+abbrev pub Fitting : Kind → RecordKind → Forest → Type 0
+Fitting Tree kind beneath = ((kind ≡ Leaf) × (beneath ≡ none)) ⊎ ((kind ≡ Guess) × (beneath ≢ none))
+Fitting Refutation kind beneath = ((kind ≡ Count) × (beneath ≡ none)) ⊎ (kind ≡ Split)
 
 -- the last tree of a row, if there is one, has a lower answer, or in a refutation a lower value
 abbrev pub Lower : Kind → Forest → ℕ → ℕ → Type 0
@@ -47,7 +49,7 @@ Rooted Refutation answer value = (answer ≡ 0) × (value ≡ 0)
 
 -- bytes that are the records of one tree in form
 pub record Planted (kind : Kind) (bs : List ℕ) : Type 0 where
-  pub top : ℕ
+  pub top : RecordKind
   pub answer : ℕ
   pub value : ℕ
   pub beneath : Forest

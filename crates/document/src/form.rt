@@ -5,15 +5,17 @@ ghost use Rattle.document.specs.Forms.{Shaped, Unasked, Plain, Blames, Faulty};
 ghost use Rattle.document.specs.Walks.{Least, lower};
 
 use crate::kind::Kind;
-use crate::record::Record;
+use crate::record::{Record, RecordKind};
 use crate::row::{Misfit, lowest_late};
 
 fn is_shaped(kind: Kind, item: Record) -> bool
     ensures { Decides result (Shaped kind item) }
 {
-    match kind {
-        Kind::Tree => (item.kind == 0 && item.span == 0) || (item.kind == 1 && item.span > 0),
-        Kind::Refutation => (item.kind == 2 && item.span == 0) || item.kind == 3,
+    match (kind, item.kind) {
+        (Kind::Tree, RecordKind::Leaf) | (Kind::Refutation, RecordKind::Count) => item.span == 0,
+        (Kind::Tree, RecordKind::Guess) => item.span > 0,
+        (Kind::Refutation, RecordKind::Split) => true,
+        _ => false,
     }
 }
 
@@ -66,6 +68,7 @@ fn lower_of(a: Option<usize>, b: Option<usize>) -> Option<usize>
 pub(crate) fn lowest_faulty(kind: Kind, records: &[[u8; 12]]) -> Option<usize>
     ensures { Least (Faulty kind (chunk_at records.now) (length records.now)) result }
 {
+    // A loop, since `filter_map` tells of what it leaves out only where a closure computes a known function.
     let mut lowest = None;
     for i in 0..records.len() {
         lowest = lower_of(lowest, lowest_blamed(kind, records, i));

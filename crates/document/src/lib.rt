@@ -14,5 +14,5 @@ pub use file::opened;
 pub use judge::{Document, judged};
 pub use kind::Kind;
 pub use reader::{read, read_refutation, read_tree};
-pub use record::{Record, record_in};
+pub use record::{Record, RecordKind, record_in};
 pub use sheet::{Contents, FileFault, Sheet};

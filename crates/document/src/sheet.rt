@@ -67,12 +67,11 @@ pub(crate) fn check_lengths(title: &[u8], records: &[u8]) -> Result<(), FileFaul
 pub(crate) fn check_title(title: &[u8]) -> Result<(), FileFault>
     ensures { Checks result (Printable title.now) TitleByte }
 {
-    for b in title {
-        if *b < 32 || 126 < *b {
-            return Err(Check::TitleByte.at(Place::Nowhere).into());
-        }
+    if title.iter().all(|b| 32 <= *b && *b <= 126) {
+        Ok(())
+    } else {
+        Err(Check::TitleByte.at(Place::Nowhere).into())
     }
-    Ok(())
 }
 
 pub(crate) fn check_figures(kind: Kind, first: u32, second: u32) -> Result<(), FileFault>

@@ -1,4 +1,4 @@
-use Rattle.std.proofs.Common.{ap, ◌∙◌, ◌-◌, drop, length, arith}
+use Rattle.std.proofs.Common.{ap, ◌∙◌, ◌-◌, drop, arith}
 use Rattle.document.specs.Files.{trailer_by}
 use Rattle.document.proofs.Chunks.{trailer_there}
 use Rattle.document.proofs.file.trailer_of.Goals as goal

@@ -1,5 +1,0 @@
-use Rattle.std.proofs.Common.{ℕ, ◌<◌, ◌≤◌, get_or}
-use Rattle.document.proofs.sheet.check_title.Given as goal
-
-abbrev pub invariant-loop-b : goal.invariant-loop-b
-invariant-loop-b l = (k : ℕ) → k < l.b-index → (32 ≤ get_or l.title k 0) × (get_or l.title k 0 ≤ 126)
