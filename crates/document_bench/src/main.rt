@@ -2,33 +2,39 @@
 #![tactic(auto)]
 
 use anyhow::anyhow;
-use document::{Contents, Kind, Sheet, read};
+use document::{Contents, Kind, Record, RecordKind, Sheet, read};
+use samples::LEAF;
 use std::alloc::{AllocError, Global};
-use std::env;
 use std::time::Instant;
+use std::{env, iter};
 use writer::write;
-
-fn put_record(records: &mut Vec<u8>, kind: u8, value: u32, span: u32) -> Result<(), AllocError> {
-    records.extend_from_slice(&[kind, 0, 0, 0])?;
-    records.extend_from_slice(&value.to_be_bytes())?;
-    records.extend_from_slice(&span.to_be_bytes())
-}
-
-fn put_group(records: &mut Vec<u8>, value: u32) -> Result<(), AllocError> {
-    for i in 0..9 {
-        put_record(records, 2, i, 0)?;
-    }
-    put_record(records, 3, value, 9)
-}
 
 // Splits with nine counts each, all beneath one split.
 fn groups(heap: Global, count: u32) -> Result<Vec<u8>, AllocError> {
-    let mut records = Vec::new(heap);
-    for group in 0..count {
-        put_group(&mut records, group)?;
-    }
-    put_record(&mut records, 3, 0, count.saturating_mul(10))?;
-    Ok(records)
+    let group = |value| {
+        let counts = (0..9).map(|value| Record {
+            kind: RecordKind::Count,
+            value,
+            ..LEAF
+        });
+        let split = Record {
+            kind: RecordKind::Split,
+            value,
+            span: 9,
+            ..LEAF
+        };
+        counts.chain(iter::once(split))
+    };
+    let split = Record {
+        kind: RecordKind::Split,
+        span: count.saturating_mul(10),
+        ..LEAF
+    };
+    (0..count)
+        .flat_map(group)
+        .chain(iter::once(split))
+        .flat_map(<[u8; 12]>::from)
+        .collect(heap)
 }
 
 fn read_often(file: &[u8], rounds: u32) -> u64 {

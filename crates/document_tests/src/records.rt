@@ -1,29 +1,38 @@
 // Records of large documents, and a trailer for them.
+use document::{Record, RecordKind};
+use samples::LEAF;
 use std::alloc::{AllocError, Global};
-
-fn put_record(records: &mut Vec<u8>, kind: u8, value: u32, span: u32) -> Result<(), AllocError> {
-    records.extend_from_slice(&[kind, 0, 0, 0])?;
-    records.extend_from_slice(&value.to_be_bytes())?;
-    records.extend_from_slice(&span.to_be_bytes())
-}
+use std::iter;
 
 // Guesses one beneath the other, with a leaf at the bottom.
 pub fn chain(heap: Global, count: u32) -> Result<Vec<u8>, AllocError> {
-    let mut records = Vec::new(heap);
-    for i in 0..count {
-        put_record(&mut records, u8::from(i > 0), 0, i)?;
-    }
-    Ok(records)
+    let guesses = (1..count).map(|span| Record {
+        kind: RecordKind::Guess,
+        span,
+        ..LEAF
+    });
+    iter::once(LEAF)
+        .chain(guesses)
+        .flat_map(<[u8; 12]>::from)
+        .collect(heap)
 }
 
 // One split with all the other records directly beneath it.
 pub fn row(heap: Global, count: u32) -> Result<Vec<u8>, AllocError> {
-    let mut records = Vec::new(heap);
-    for i in 1..count {
-        put_record(&mut records, 2, i, 0)?;
-    }
-    put_record(&mut records, 3, 0, count.saturating_sub(1))?;
-    Ok(records)
+    let counts = (1..count).map(|value| Record {
+        kind: RecordKind::Count,
+        value,
+        ..LEAF
+    });
+    let split = Record {
+        kind: RecordKind::Split,
+        span: count.saturating_sub(1),
+        ..LEAF
+    };
+    counts
+        .chain(iter::once(split))
+        .flat_map(<[u8; 12]>::from)
+        .collect(heap)
 }
 
 // A refutation's trailer without a title, for game 7.

@@ -1,5 +1,7 @@
-// Two small documents, byte by byte, for one peg, two colours and game 7: what programs try reading and writing on.
+// What programs try reading and writing on: two small documents, byte by byte, for one peg, two colours and game 7, and a record.
 #![tactic(auto)]
+
+use document::{Record, RecordKind};
 
 // Ask colour 0, then colour 1.
 pub const TREE: &[u8] = b"\x00\x01\x00\x00\x00\x00\x00\x01\x00\x00\x00\x00\
@@ -11,3 +13,12 @@ pub const TREE: &[u8] = b"\x00\x01\x00\x00\x00\x00\x00\x01\x00\x00\x00\x00\
 // Two codes are more than one guess has places for.
 pub const REFUTATION: &[u8] = b"\x02\x00\x00\x00\x00\x00\x00\x00\x00\x00\x00\x00\
     \x52\x01\x00\x00\x00\x00\x00\x01\x00\x00\x00\x01\x00\x00\x00\x00\x00\x00\x00\x0c\x00\x00\x00\x07";
+
+// A leaf with nothing in it, for programs to write other records as changes of.
+pub const LEAF: Record = Record {
+    kind: RecordKind::Leaf,
+    answer: 0,
+    gap: 0,
+    value: 0,
+    span: 0,
+};
