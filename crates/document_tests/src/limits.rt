@@ -4,6 +4,15 @@ use crate::records::{chain, put_trailer, row};
 use document::{Contents, Kind, Sheet};
 use writer::write;
 
+// The greatest figures of a refutation, with no title and no records yet.
+const UNTITLED: Contents<'static> = Contents {
+    title: b"",
+    records: b"",
+    first: 30,
+    second: 0,
+    game: 7,
+};
+
 fn show_written(rt: &HostRuntime, sheet: Sheet<'_>) -> anyhow::Result<()> {
     let title = sheet.contents.title.len();
     let records = sheet.contents.records.len();
@@ -30,8 +39,7 @@ fn show_changes(rt: &HostRuntime) -> anyhow::Result<()> {
         title: &[b'x'; 40],
         records: records.as_slice(),
         first: 1,
-        second: 0,
-        game: 7,
+        ..UNTITLED
     };
     show_kind(rt, Kind::Refutation, contents)?;
     let title = &[b'x'; 41];
@@ -46,30 +54,6 @@ fn show_changes(rt: &HostRuntime) -> anyhow::Result<()> {
     show_kind(rt, Kind::Tree, Contents { second, ..contents })
 }
 
-fn show_deep(rt: &HostRuntime, count: u32) -> anyhow::Result<()> {
-    let records = chain(rt.alloc(), count)?;
-    let contents = Contents {
-        title: b"deep",
-        records: records.as_slice(),
-        first: 30,
-        second: 491_520,
-        game: 7,
-    };
-    show_kind(rt, Kind::Tree, contents)
-}
-
-fn show_wide(rt: &HostRuntime, count: u32) -> anyhow::Result<()> {
-    let records = row(rt.alloc(), count)?;
-    let contents = Contents {
-        title: b"",
-        records: records.as_slice(),
-        first: 30,
-        second: 0,
-        game: 7,
-    };
-    show_kind(rt, Kind::Refutation, contents)
-}
-
 fn show_file(rt: &HostRuntime, count: u32) -> anyhow::Result<()> {
     let mut file = row(rt.alloc(), count)?;
     put_trailer(&mut file, count)?;
@@ -78,9 +62,22 @@ fn show_file(rt: &HostRuntime, count: u32) -> anyhow::Result<()> {
 
 pub fn report(rt: &HostRuntime) -> anyhow::Result<()> {
     show_changes(rt)?;
-    show_deep(rt, 1_000_000)?;
-    show_wide(rt, 1_048_576)?;
-    show_wide(rt, 1_048_577)?;
+    let guesses = chain(rt.alloc(), 1_000_000)?;
+    let deep = Contents {
+        title: b"deep",
+        records: guesses.as_slice(),
+        second: 491_520,
+        ..UNTITLED
+    };
+    show_kind(rt, Kind::Tree, deep)?;
+    for count in [1_048_576, 1_048_577] {
+        let siblings = row(rt.alloc(), count)?;
+        let wide = Contents {
+            records: siblings.as_slice(),
+            ..UNTITLED
+        };
+        show_kind(rt, Kind::Refutation, wide)?;
+    }
     show_file(rt, 1_048_576)?;
     show_file(rt, 1_048_577)
 }
