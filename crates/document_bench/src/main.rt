@@ -2,54 +2,56 @@
 #![tactic(auto)]
 
 use anyhow::anyhow;
-use document::{Sheet, read};
+use document::{Contents, Kind, Record, RecordKind, Sheet, read};
+use samples::LEAF;
 use std::alloc::{AllocError, Global};
-use std::env;
 use std::time::Instant;
-use writer::{sheet_of, write};
-
-fn put_record(records: &mut Vec<u8>, kind: u8, value: u32, span: u32) -> Result<(), AllocError> {
-    records.extend_from_slice(&[kind, 0, 0, 0])?;
-    records.extend_from_slice(&value.to_be_bytes())?;
-    records.extend_from_slice(&span.to_be_bytes())
-}
-
-fn put_group(records: &mut Vec<u8>, value: u32) -> Result<(), AllocError> {
-    for i in 0..9 {
-        put_record(records, 2, i, 0)?;
-    }
-    put_record(records, 3, value, 9)
-}
+use std::{env, iter};
+use writer::write;
 
 // Splits with nine counts each, all beneath one split.
 fn groups(heap: Global, count: u32) -> Result<Vec<u8>, AllocError> {
-    let mut records = Vec::new(heap);
-    for group in 0..count {
-        put_group(&mut records, group)?;
-    }
-    put_record(&mut records, 3, 0, count.saturating_mul(10))?;
-    Ok(records)
+    let group = |value| {
+        let counts = (0..9).map(|value| Record {
+            kind: RecordKind::Count,
+            value,
+            ..LEAF
+        });
+        let split = Record {
+            kind: RecordKind::Split,
+            value,
+            span: 9,
+            ..LEAF
+        };
+        counts.chain(iter::once(split))
+    };
+    let split = Record {
+        kind: RecordKind::Split,
+        span: count.saturating_mul(10),
+        ..LEAF
+    };
+    (0..count)
+        .flat_map(group)
+        .chain(iter::once(split))
+        .flat_map(<[u8; 12]>::from)
+        .collect(heap)
 }
 
 fn read_often(file: &[u8], rounds: u32) -> u64 {
-    let mut read_well = 0u64;
+    let mut games = 0u64;
     for _ in 0..rounds {
-        match read(file) {
-            Ok(document) => read_well = read_well.saturating_add(u64::from(
-                sheet_of(document).game,
-            )),
-            Err(_) => {}
+        if let Ok(document) = read(file) {
+            games = games.saturating_add(u64::from(document.contents().game));
         }
     }
-    read_well
+    games
 }
 
 fn write_often(sheet: Sheet<'_>, out: &mut [u8], rounds: u32) -> usize {
     let mut bytes = 0usize;
     for _ in 0..rounds {
-        match write(sheet, out) {
-            Ok(more) => bytes = bytes.saturating_add(more),
-            Err(_) => {}
+        if let Ok(more) = write(sheet, out) {
+            bytes = bytes.saturating_add(more);
         }
     }
     bytes
@@ -80,12 +82,14 @@ fn timed(rt: &HostRuntime, file: &[u8], sheet: Sheet<'_>, out: &mut [u8]) -> any
 fn main(rt: HostRuntime) -> anyhow::Result<()> {
     let records = groups(rt.alloc(), 100_000)?;
     let sheet = Sheet {
-        letter: b'R',
-        title: b"a million records",
-        records: records.as_slice(),
-        first: 3,
-        second: 0,
-        game: 1,
+        letter: Kind::Refutation.into(),
+        contents: Contents {
+            title: b"a million records",
+            records: records.as_slice(),
+            first: 3,
+            second: 0,
+            game: 1,
+        },
     };
     let mut file = vec![in rt.alloc(); 0u8; 12_000_053]?;
     let mut out = vec![in rt.alloc(); 0u8; 12_000_053]?;

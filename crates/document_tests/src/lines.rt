@@ -1,8 +1,12 @@
 // What reading a file answers, as a line of text.
-use document::{Contents, Document, FileFault, read};
-use fault::Place;
+use document::{Document, FileFault, read};
 
-fn show_contents(rt: &impl Print, kind: &str, contents: Contents<'_>) -> anyhow::Result<()> {
+fn show_document(rt: &impl Print, document: Document<'_>) -> anyhow::Result<()> {
+    let kind = match document {
+        Document::Tree(_) => "tree",
+        Document::Refutation(_) => "refutation",
+    };
+    let contents = document.contents();
     let title = contents.title.len();
     let records = contents.records.len() / 12;
     let first = contents.first;
@@ -17,18 +21,14 @@ fn show_contents(rt: &impl Print, kind: &str, contents: Contents<'_>) -> anyhow:
 pub fn show_fault(rt: &impl Print, refused: FileFault) -> anyhow::Result<()> {
     let number = refused.fault.number;
     let stage = refused.fault.stage;
-    match refused.fault.place {
-        Place::Record(place) => println!(rt; "no {number} {stage:?} r{place}")?,
-        Place::Code(place) => println!(rt; "no {number} {stage:?} c{place}")?,
-        Place::Nowhere => println!(rt; "no {number} {stage:?} -")?,
-    }
+    let place = refused.fault.place;
+    println!(rt; "no {number} {stage:?} {place}")?;
     Ok(())
 }
 
 pub fn show_read(rt: &impl Print, file: &[u8]) -> anyhow::Result<()> {
     match read(file) {
-        Ok(Document::Tree(contents)) => show_contents(rt, "tree", contents),
-        Ok(Document::Refutation(contents)) => show_contents(rt, "refutation", contents),
+        Ok(document) => show_document(rt, document),
         Err(refused) => show_fault(rt, refused),
     }
 }

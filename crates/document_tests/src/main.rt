@@ -3,7 +3,7 @@
 
 mod limits;
 mod lines;
-mod samples;
+mod records;
 mod small;
 
 fn main(rt: HostRuntime) -> anyhow::Result<()> {

@@ -1,16 +1,14 @@
 // The two small documents, whole, with each byte changed, and cut short.
 use crate::lines::{show_fault, show_read};
-use crate::samples::{small_refutation, small_tree};
 use document::{read_refutation, read_tree};
-use title::{Source, title_to_show};
+use samples::{REFUTATION, TREE};
+use title::title_to_show;
 use writer::rewrite;
 
 fn show_broken(rt: &HostRuntime, file: &[u8], by: u8) -> anyhow::Result<()> {
-    for at in 0..file.len() {
+    for (at, byte) in file.iter().enumerate() {
         let mut copy = Vec::from_slice(rt.alloc(), file)?;
-        if let Some(byte) = copy.get_mut(at) {
-            *byte = byte.wrapping_add(by);
-        }
+        copy[at] = byte.wrapping_add(by);
         print!(rt; "byte {at} plus {by}: ")?;
         show_read(rt, copy.as_slice())?;
     }
@@ -42,14 +40,11 @@ fn show_letters(rt: &HostRuntime, file: &[u8]) -> anyhow::Result<()> {
 
 fn show_title(rt: &HostRuntime, house: &[u8], supplier: &[u8]) -> anyhow::Result<()> {
     let shown = title_to_show(house, supplier);
-    let whose = match shown.source {
-        Source::House => "house",
-        Source::Supplier => "supplier",
-    };
+    let source = shown.source;
     let title = shown.title;
     let start = shown.start;
     let end = shown.end;
-    println!(rt; "{whose} {start}..{end} {title:?}")?;
+    println!(rt; "{source} {start}..{end} {title:?}")?;
     Ok(())
 }
 
@@ -63,8 +58,8 @@ fn show_all(rt: &HostRuntime, file: &[u8]) -> anyhow::Result<()> {
 }
 
 pub fn report(rt: &HostRuntime) -> anyhow::Result<()> {
-    show_all(rt, small_tree())?;
-    show_all(rt, small_refutation())?;
+    show_all(rt, TREE)?;
+    show_all(rt, REFUTATION)?;
     show_read(rt, b"too short")?;
     show_title(rt, b"Lid", b"Box")?;
     show_title(rt, b"", b"Box")

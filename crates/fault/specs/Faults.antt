@@ -1,10 +1,10 @@
 -- The number and the stage of each check: the one place that fixes them. Assumes nothing.
-use Rattle.std.specs.Prelude.{ℕ}
+use Rattle.std.specs.Prelude.{ℕ, List, ◌++◌, codes, decimal}
 use Rattle.fault.specs.declared.Check.{Check}
 use Rattle.fault.specs.declared.Check.TheVariants.{FileTooShort, KindOrEdition, Lengths, TitleByte, Figure, RecordForm, OutputTooShort, GameParameters, TableShape, BlurTable, HintPair, NinthHint}
 use Rattle.fault.specs.declared.Fault.{Fault}
 use Rattle.fault.specs.declared.Place.{Place}
-use Rattle.fault.specs.declared.Place.TheVariants.{Nowhere}
+use Rattle.fault.specs.declared.Place.TheVariants.{Nowhere, Record as at_record, Code as at_code}
 use Rattle.fault.specs.declared.Stage.{Stage}
 use Rattle.fault.specs.declared.Stage.TheVariants.{Rule, File, Record}
 
@@ -43,3 +43,9 @@ fault_at check place = record { number = number_of check; stage = stage_of check
 -- the fault of a check that blames no part of the input
 abbrev pub refusal : Check → Fault
 refusal check = fault_at check Nowhere
+
+-- what is printed for a place
+abbrev pub place_text : Place → List ℕ
+place_text Nowhere = codes "-"
+place_text (at_record n) = codes "r" ++ decimal n
+place_text (at_code n) = codes "c" ++ decimal n

@@ -1,8 +1,10 @@
 // What a call refuses with: which check failed, where in the work that check belongs, and which part of the input it blames.
 #![tactic(auto)]
 
-ghost use Rattle.std.specs.Prelude.{◌≡◌};
-ghost use Rattle.fault.specs.Faults.{number_of, stage_of, fault_at};
+ghost use Rattle.std.specs.Prelude.{◌≡◌, Some};
+ghost use Rattle.fault.specs.Faults.{number_of, stage_of, fault_at, place_text};
+
+use std::fmt;
 
 // The part of the work that a check belongs to.
 #[derive(Clone, Copy, PartialEq, Eq, Debug)]
@@ -22,6 +24,19 @@ pub enum Place {
     Code(u32),
 }
 
+impl fmt::Display for Place {
+    ghost output = { λ place. Some (place_text place) };
+
+    fn fmt<W: fmt::Write>(&self, f: &mut fmt::Formatter<W>) -> fmt::Result {
+        match self {
+            Place::Nowhere => f.write_str("-"),
+            Place::Record(at) => write!(f, "r{at}"),
+            Place::Code(at) => write!(f, "c{at}"),
+        }
+    }
+}
+
+// A rule of the project fixes that a fault has a number, a stage and a place; the number is that of the check that refused.
 #[derive(Clone, Copy, PartialEq, Eq, Debug)]
 pub struct Fault {
     pub number: u32,

@@ -1,5 +1,8 @@
 // Worked weighings. Print counts the coins from 1, the rules from 0.
-use crate::report::{Stop, Tally};
+ghost use Rattle.std.specs.Prelude.{◌≡◌};
+ghost use Rattle.figures.specs.Balance.{answer_of};
+
+use crate::report::{Report, Stop};
 use rule::{AnswerRule, Coins};
 use std::fmt;
 
@@ -9,6 +12,28 @@ pub enum Outcome {
     Level = 0,
     LeftHeavier = 1,
     RightHeavier = 2,
+}
+
+// The answer that stands for an outcome.
+impl From<Outcome> for u8 {
+    ghost from_gives = { λ outcome answer. answer ≡ answer_of outcome };
+
+    fn from(outcome: Outcome) -> u8 {
+        outcome as u8
+    }
+}
+
+impl Outcome {
+    // What a digit of a label stands for, if it is one. The coins with 0 lie left and those with 2 right, so that a heavy
+    // coin with 0 presses the left pan down.
+    fn of_sign(sign: u8) -> Option<Outcome> {
+        match sign {
+            b'0' => Some(Outcome::LeftHeavier),
+            b'1' => Some(Outcome::Level),
+            b'2' => Some(Outcome::RightHeavier),
+            _ => None,
+        }
+    }
 }
 
 impl fmt::Display for Outcome {
@@ -45,31 +70,41 @@ fn code_of(coin: u32, how: Falseness) -> u32 {
     }
 }
 
-// What the coins on a pan add to the number of a weighing, where a coin on it stands as this digit.
-fn pan(coins: u32, on: &[u32], digit: u32) -> u32 {
-    let mut number = 0u32;
-    for coin in on {
-        let power = 3u32.saturating_pow(coins.saturating_sub(*coin));
-        number = number.saturating_add(power.saturating_mul(digit));
+// The pan that a coin lies on, and the digit to base 3 that stands for that in the number of a weighing.
+#[derive(Clone, Copy)]
+enum Pan {
+    Left = 1,
+    Right = 2,
+}
+
+impl Pan {
+    // What the coins on this pan add to the number of a weighing.
+    fn number(self, coins: u32, on: &[u32]) -> u32 {
+        let mut number = 0u32;
+        for coin in on {
+            let power = 3u32.saturating_pow(coins.saturating_sub(*coin));
+            number = number.saturating_add(power.saturating_mul(self as u32));
+        }
+        number
     }
-    number
 }
 
 // The number of the weighing of some coins, counted from 1, against others.
 pub(crate) fn weighing(coins: u32, left: &[u32], right: &[u32]) -> u32 {
-    pan(coins, left, 1).saturating_add(pan(coins, right, 2))
+    let on_the_left = Pan::Left.number(coins, left);
+    let on_the_right = Pan::Right.number(coins, right);
+    on_the_left.saturating_add(on_the_right)
 }
 
-pub(crate) fn show(rt: &HostRuntime, tally: &mut Tally) -> Result<(), Stop> {
-    println!(rt; "Worked weighings")?;
-    one_against_one(rt, tally)?;
-    dyson(rt, tally)
+pub(crate) fn show(report: &mut Report<'_>) -> Result<(), Stop> {
+    println!(report.rt; "Worked weighings")?;
+    one_against_one(report)?;
+    dyson(report)
 }
 
 // Weighings of one coin against another, of four.
 fn score(
-    rt: &HostRuntime,
-    tally: &mut Tally,
+    report: &mut Report<'_>,
     left: u32,
     right: u32,
     coin: u32,
@@ -78,106 +113,87 @@ fn score(
 ) -> Result<(), Stop> {
     let rule = Coins::new(4)?;
     let computed = rule.answer(code_of(coin, how), weighing(4, &[left], &[right]));
-    let verdict = tally.compare(printed as u32, u32::from(computed));
-    let expected = printed as u32;
-    println!(rt;
+    let expected = u8::from(printed);
+    let verdict = report.tally.count(expected == computed);
+    println!(report.rt;
         "  {left} against {right}, coin {coin} {how}: printed {printed}, answer {expected}; computed answer {computed}: {verdict}"
     )?;
     Ok(())
 }
 
-fn one_against_one(rt: &HostRuntime, tally: &mut Tally) -> Result<(), Stop> {
-    println!(rt; " Klimos's example of a strategy for 4 coins")?;
-    score(rt, tally, 1, 2, 3, Falseness::Heavy, Outcome::Level)?;
-    score(rt, tally, 1, 4, 3, Falseness::Heavy, Outcome::Level)?;
-    score(rt, tally, 3, 4, 3, Falseness::Heavy, Outcome::LeftHeavier)?;
-    println!(rt; " The COBRA framework's outcome for a lighter left pan")?;
-    score(rt, tally, 4, 3, 4, Falseness::Light, Outcome::RightHeavier)?;
-    score(rt, tally, 4, 3, 3, Falseness::Heavy, Outcome::RightHeavier)
+fn one_against_one(report: &mut Report<'_>) -> Result<(), Stop> {
+    println!(report.rt; " Klimos's example of a strategy for 4 coins")?;
+    score(report, 1, 2, 3, Falseness::Heavy, Outcome::Level)?;
+    score(report, 1, 4, 3, Falseness::Heavy, Outcome::Level)?;
+    score(report, 3, 4, 3, Falseness::Heavy, Outcome::LeftHeavier)?;
+    println!(report.rt; " The COBRA framework's outcome for a lighter left pan")?;
+    score(report, 4, 3, 4, Falseness::Light, Outcome::RightHeavier)?;
+    score(report, 4, 3, 3, Falseness::Heavy, Outcome::RightHeavier)
 }
 
 // The three weighings of Dyson's scheme for twelve coins.
 #[derive(Clone, Copy)]
 struct Scheme {
     rule: Coins,
-    first: u32,
-    second: u32,
-    third: u32,
+    weighings: [u32; 3],
 }
 
 impl Scheme {
-    fn outcomes(&self, code: u32) -> [u8; 3] {
-        [
-            self.rule.answer(code, self.first),
-            self.rule.answer(code, self.second),
-            self.rule.answer(code, self.third),
-        ]
+    fn answers(&self, code: u32) -> [u8; 3] {
+        self.weighings
+            .map(|weighing| self.rule.answer(code, weighing))
     }
 }
 
-// The digit of a label as an answer. The coins with 0 lie left and those with 2 right, so that a heavy coin with 0 presses
-// the left pan down.
-fn answer_of(sign: u8) -> u32 {
-    match sign {
-        b'0' => Outcome::LeftHeavier as u32,
-        b'1' => Outcome::Level as u32,
-        _ => Outcome::RightHeavier as u32,
-    }
-}
-
-fn dyson(rt: &HostRuntime, tally: &mut Tally) -> Result<(), Stop> {
-    println!(rt;
+fn dyson(report: &mut Report<'_>) -> Result<(), Stop> {
+    println!(report.rt;
         " Dyson's scheme for 12 coins as Klimos prints it: 0 left heavier, 1 level, 2 right heavier"
     )?;
     let scheme = Scheme {
         rule: Coins::new(12)?,
-        first: weighing(12, &[1, 3, 4, 5], &[2, 6, 7, 8]),
-        second: weighing(12, &[1, 6, 7, 8], &[2, 9, 10, 11]),
-        third: weighing(12, &[2, 3, 8, 11], &[5, 6, 9, 12]),
+        weighings: [
+            weighing(12, &[1, 3, 4, 5], &[2, 6, 7, 8]),
+            weighing(12, &[1, 6, 7, 8], &[2, 9, 10, 11]),
+            weighing(12, &[2, 3, 8, 11], &[5, 6, 9, 12]),
+        ],
     };
     // each coin's label when it is heavy, the clockwise one, and when it is light
-    labels(rt, tally, &scheme, 1, "001", "221")?;
-    labels(rt, tally, &scheme, 2, "220", "002")?;
-    labels(rt, tally, &scheme, 3, "010", "212")?;
-    labels(rt, tally, &scheme, 4, "011", "211")?;
-    labels(rt, tally, &scheme, 5, "012", "210")?;
-    labels(rt, tally, &scheme, 6, "202", "020")?;
-    labels(rt, tally, &scheme, 7, "201", "021")?;
-    labels(rt, tally, &scheme, 8, "200", "022")?;
-    labels(rt, tally, &scheme, 9, "122", "100")?;
-    labels(rt, tally, &scheme, 10, "121", "101")?;
-    labels(rt, tally, &scheme, 11, "120", "102")?;
-    labels(rt, tally, &scheme, 12, "112", "110")
-}
-
-fn labels(
-    rt: &HostRuntime,
-    tally: &mut Tally,
-    scheme: &Scheme,
-    coin: u32,
-    heavy: &str,
-    light: &str,
-) -> Result<(), Stop> {
-    label(rt, tally, scheme, coin, Falseness::Heavy, heavy)?;
-    label(rt, tally, scheme, coin, Falseness::Light, light)
+    for (coin, heavy, light) in [
+        (1, "001", "221"),
+        (2, "220", "002"),
+        (3, "010", "212"),
+        (4, "011", "211"),
+        (5, "012", "210"),
+        (6, "202", "020"),
+        (7, "201", "021"),
+        (8, "200", "022"),
+        (9, "122", "100"),
+        (10, "121", "101"),
+        (11, "120", "102"),
+        (12, "112", "110"),
+    ] {
+        label(report, &scheme, coin, Falseness::Heavy, heavy)?;
+        label(report, &scheme, coin, Falseness::Light, light)?;
+    }
+    Ok(())
 }
 
 fn label(
-    rt: &HostRuntime,
-    tally: &mut Tally,
+    report: &mut Report<'_>,
     scheme: &Scheme,
     coin: u32,
     how: Falseness,
     printed: &str,
 ) -> Result<(), Stop> {
-    let outcomes = scheme.outcomes(code_of(coin, how));
-    let before = *tally;
-    print!(rt; "  coin {coin} {how}: printed {printed}; computed answers")?;
-    for (sign, computed) in printed.bytes().zip(outcomes.iter()) {
-        let _ = tally.compare(answer_of(sign), u32::from(*computed));
-        print!(rt; " {computed}")?;
+    let answers = scheme.answers(code_of(coin, how));
+    let before = report.tally;
+    print!(report.rt; "  coin {coin} {how}: printed {printed}; computed answers")?;
+    for (sign, computed) in printed.bytes().zip(answers) {
+        let expected = Outcome::of_sign(sign).map(u8::from);
+        let _ = report.tally.count(expected == Some(computed));
+        print!(report.rt; " {computed}")?;
     }
-    let verdict = tally.since(before);
-    println!(rt; ": {verdict}")?;
+    let verdict = report.tally.since(before);
+    println!(report.rt; ": {verdict}")?;
     Ok(())
 }

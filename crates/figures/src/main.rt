@@ -13,17 +13,17 @@ mod places;
 mod report;
 
 use house::house_figures;
-use report::{Stop, Tally};
+use report::{Report, Stop};
 
 fn main(rt: HostRuntime) -> Result<(), Stop> {
-    let mut tally = Tally::new();
+    let mut report = Report::new(&rt);
     games::show(&rt)?;
-    pegs::show(&rt, &mut tally)?;
-    coins::show(&rt, &mut tally)?;
-    divisions::show(&rt, &mut tally)?;
-    places::show(&rt, &mut tally)?;
-    documents::show(&rt, &mut tally)?;
+    pegs::show(&mut report)?;
+    coins::show(&mut report)?;
+    divisions::show(&mut report)?;
+    places::show(&mut report)?;
+    documents::show(&mut report)?;
     let rows = house_figures();
     println!(rt; "House figures proved: {rows}")?;
-    tally.show(&rt)
+    report.close()
 }

@@ -1,17 +1,27 @@
 // Rows of pegs as print shows them: a sign for each peg, the signs of the colours in a row from the first on.
 use crate::pairs::Pair;
+use fault::Fault;
 use rule::{AnswerRule, Pegs};
 
 // A game of pegs, and the sign of its first colour.
 #[derive(Clone, Copy)]
 pub struct PegGame {
     pub rule: Pegs,
-    pub pegs: u8,
+    pub pegs: u32,
     pub colours: u32,
     pub first: u8,
 }
 
 impl PegGame {
+    pub(crate) fn new(pegs: u32, colours: u32, repeats: bool, first: u8) -> Result<PegGame, Fault> {
+        Ok(PegGame {
+            rule: Pegs::new(pegs, colours, repeats)?,
+            pegs,
+            colours,
+            first,
+        })
+    }
+
     // The number that a printed row stands for. Text that is no row of the game gives a number that is not one either.
     pub(crate) fn number(&self, row: &str) -> u32 {
         let mut number = 0u32;

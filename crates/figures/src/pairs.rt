@@ -1,10 +1,10 @@
 // Black and white as a pair, and the answer that stands for it.
 ghost use Rattle.std.specs.Prelude.{◌≡◌};
-ghost use Rattle.rule.specs.Pegs.{possible as can_come};
+ghost use Rattle.rule.specs.Pegs.{possible};
 
-use std::fmt;
+use std::{array, fmt};
 
-#[derive(Clone, Copy)]
+#[derive(Clone, Copy, PartialEq, Eq)]
 pub struct Pair {
     pub black: u8,
     pub white: u8,
@@ -18,41 +18,38 @@ impl fmt::Display for Pair {
     }
 }
 
-// Whether so many pegs can be answered so. With all but one peg in place, the last cannot be of a right colour elsewhere.
-fn possible(pegs: u8, black: u8, white: u8) -> bool
-    ensures { result ≡ can_come pegs (black, white) }
-{
-    let all = u32::from(pegs);
-    let placed = u32::from(black);
-    let elsewhere = u32::from(white);
-    placed + elsewhere <= all && !(placed + 1 == all && elsewhere == 1)
+// All pairs of up to six black and six white, by rising black and then white.
+fn all_pairs() -> [Pair; 49] {
+    array::from_fn(|at| Pair {
+        black: (at / 7) as u8,
+        white: (at % 7) as u8,
+    })
 }
 
 impl Pair {
-    // The answer that stands for this pair, if it can come: how many pairs that can come are before it, by rising black and then white.
-    pub(crate) fn answer(self, pegs: u8) -> Option<u8> {
-        let mut before = 0u8;
-        for black in 0..7u8 {
-            for white in 0..7u8 {
-                if black == self.black && white == self.white && possible(pegs, black, white) {
-                    return Some(before);
-                }
-                before = before.saturating_add(u8::from(possible(pegs, black, white)));
-            }
-        }
-        None
+    // Whether so many pegs can be answered so. With all but one peg in place, the last cannot be of a right colour elsewhere.
+    fn can_come(self, pegs: u32) -> bool
+        ensures { result ≡ possible pegs (self.black, self.white) }
+    {
+        let placed = u32::from(self.black);
+        let elsewhere = u32::from(self.white);
+        placed + elsewhere <= pegs && !(placed + 1 == pegs && elsewhere == 1)
+    }
+
+    // The answer that stands for this pair, if it can come: how many pairs that can come are before it.
+    pub(crate) fn answer(self, pegs: u32) -> Option<u8> {
+        let before = all_pairs()
+            .into_iter()
+            .filter(|pair| pair.can_come(pegs))
+            .position(|pair| pair == self)?;
+        u8::try_from(before).ok()
     }
 
     // The pair that an answer stands for; none where it is no answer.
-    pub(crate) fn of_answer(pegs: u8, answer: u8) -> Option<Pair> {
-        for black in 0..7u8 {
-            for white in 0..7u8 {
-                let pair = Pair { black, white };
-                if pair.answer(pegs) == Some(answer) {
-                    return Some(pair);
-                }
-            }
-        }
-        None
+    pub(crate) fn of_answer(pegs: u32, answer: u8) -> Option<Pair> {
+        all_pairs()
+            .into_iter()
+            .filter(|pair| pair.can_come(pegs))
+            .nth(usize::from(answer))
     }
 }

@@ -1,4 +1,4 @@
-// How the printed figures and the computed ones compare, counted over the whole report.
+// The report as it is printed, and how many of its printed figures agree with the computed ones.
 ghost use Rattle.std.specs.Prelude.{◌≡◌, ◌==◌};
 ghost use Rattle.figures.specs.Report.{verdict, counted};
 
@@ -95,35 +95,51 @@ impl Tally {
             Verdict::Differs
         }
     }
+}
+
+// Where the report is printed, and what was compared in it so far.
+#[derive(Drop)]
+pub struct Report<'a> {
+    pub rt: &'a HostRuntime,
+    pub tally: Tally,
+}
+
+impl<'a> Report<'a> {
+    pub(crate) fn new(rt: &'a HostRuntime) -> Report<'a> {
+        Report {
+            rt,
+            tally: Tally::new(),
+        }
+    }
 
     // Prints a printed row above the computed one and compares them place by place, as far as print goes.
     pub(crate) fn compare_rows(
         &mut self,
-        rt: &HostRuntime,
         name: &str,
         printed: &[u32],
         computed: &[u32],
     ) -> Result<(), Stop> {
-        print!(rt; "  {name}: printed ")?;
+        print!(self.rt; "  {name}: printed ")?;
         for figure in printed {
-            print!(rt; " {figure}")?;
+            print!(self.rt; " {figure}")?;
         }
-        println!(rt; "")?;
-        let before = *self;
-        print!(rt; "  {name}: computed")?;
+        println!(self.rt; "")?;
+        let before = self.tally;
+        print!(self.rt; "  {name}: computed")?;
         for (expected, figure) in printed.iter().zip(computed.iter()) {
-            let _ = self.compare(*expected, *figure);
-            print!(rt; " {figure}")?;
+            let _ = self.tally.compare(*expected, *figure);
+            print!(self.rt; " {figure}")?;
         }
-        let verdict = self.since(before);
-        println!(rt; ": {verdict}")?;
+        let verdict = self.tally.since(before);
+        println!(self.rt; ": {verdict}")?;
         Ok(())
     }
 
-    pub(crate) fn show(&self, rt: &HostRuntime) -> Result<(), Stop> {
-        let agree = self.agree;
-        let differ = self.differ;
-        println!(rt; "Figures compared: {agree} agree, {differ} differ")?;
+    // The last line, which says how many figures agree.
+    pub(crate) fn close(&self) -> Result<(), Stop> {
+        let agree = self.tally.agree;
+        let differ = self.tally.differ;
+        println!(self.rt; "Figures compared: {agree} agree, {differ} differ")?;
         if differ == 0 {
             Ok(())
         } else {

@@ -1,8 +1,13 @@
 -- Which title is shown. Assumes nothing.
-use Rattle.std.specs.Prelude.{◌≡◌, List, ℕ, ◌<◌, length}
+use Rattle.std.specs.Prelude.{◌≡◌, List, ℕ, ◌<◌, length, codes}
 use Rattle.title.specs.declared.Shown.{Shown}
 use Rattle.title.specs.declared.Source.{Source}
 use Rattle.title.specs.declared.Source.TheVariants.{House, Supplier}
+
+-- what is printed for the house or for the supplier
+abbrev pub name_of : Source → List ℕ
+name_of House = codes "house"
+name_of Supplier = codes "supplier"
 
 -- the line of the house or of the supplier
 abbrev pub line_of : List ℕ → List ℕ → Source → List ℕ

@@ -1,13 +1,26 @@
 // The title to show: the house's own line, or else the supplier's.
 #![tactic(auto)]
 
-ghost use Rattle.std.specs.Prelude.{◌≡◌, length};
-ghost use Rattle.title.specs.Titles.{Shows};
+ghost use Rattle.std.specs.Prelude.{◌≡◌, length, Some};
+ghost use Rattle.title.specs.Titles.{Shows, name_of};
+
+use std::fmt;
 
 #[derive(Clone, Copy, PartialEq, Eq)]
 pub enum Source {
     House,
     Supplier,
+}
+
+impl fmt::Display for Source {
+    ghost output = { λ source. Some (name_of source) };
+
+    fn fmt<W: fmt::Write>(&self, f: &mut fmt::Formatter<W>) -> fmt::Result {
+        match self {
+            Source::House => f.write_str("house"),
+            Source::Supplier => f.write_str("supplier"),
+        }
+    }
 }
 
 // A title, whose it is, and where it stands in that one's line.

@@ -1,0 +1,45 @@
+// Records of large documents, and a trailer for them.
+use document::{Record, RecordKind};
+use samples::LEAF;
+use std::alloc::{AllocError, Global};
+use std::iter;
+
+// Guesses one beneath the other, with a leaf at the bottom.
+pub fn chain(heap: Global, count: u32) -> Result<Vec<u8>, AllocError> {
+    let guesses = (1..count).map(|span| Record {
+        kind: RecordKind::Guess,
+        span,
+        ..LEAF
+    });
+    iter::once(LEAF)
+        .chain(guesses)
+        .flat_map(<[u8; 12]>::from)
+        .collect(heap)
+}
+
+// One split with all the other records directly beneath it.
+pub fn row(heap: Global, count: u32) -> Result<Vec<u8>, AllocError> {
+    let counts = (1..count).map(|value| Record {
+        kind: RecordKind::Count,
+        value,
+        ..LEAF
+    });
+    let split = Record {
+        kind: RecordKind::Split,
+        span: count.saturating_sub(1),
+        ..LEAF
+    };
+    counts
+        .chain(iter::once(split))
+        .flat_map(<[u8; 12]>::from)
+        .collect(heap)
+}
+
+// A refutation's trailer without a title, for game 7.
+pub fn put_trailer(file: &mut Vec<u8>, count: u32) -> Result<(), AllocError> {
+    file.extend_from_slice(b"R\x01\x00\x00")?;
+    file.extend_from_slice(&count.to_be_bytes())?;
+    file.extend_from_slice(b"\x00\x00\x00\x01\x00\x00\x00\x00")?;
+    file.extend_from_slice(&count.wrapping_mul(12).to_be_bytes())?;
+    file.extend_from_slice(b"\x00\x00\x00\x07")
+}
