@@ -1,22 +1,15 @@
 -- Bytes to numbers and numbers to bytes, both ways round. Assumes nothing.
 use Rattle.std.proofs.Common.{◌≡◌, ℕ, ◌+◌, ◌*◌, ◌/◌, ◌%◌, ◌<◌, ◌≤◌, List, ◌∷◌, ◌++◌, length, get_or, drop, sym, refl, ap, ◌∙◌, arith}
 use Rattle.std.proofs.lemmas.List.{drop_more}
+use Rattle.std.proofs.lemmas.Nat.{from_be_bytes-to_be_bytes_2, from_be_bytes-to_be_bytes_4}
 use Rattle.document.specs.Bytes.{two, four, two_at, four_at}
 
 -- the number of the two bytes of a number
 pub from_two : (n : ℕ) → n < 65536 → (n / 256 % 256) * 256 + n % 256 ≡ n
-from_two n l = omega arith
+from_two n l = from_be_bytes-to_be_bytes_2 n l
 
 pub from_four : (n : ℕ) → n < 4294967296 → (n / 16777216 % 256) * 16777216 + (n / 65536 % 256) * 65536 + (n / 256 % 256) * 256 + n % 256 ≡ n
-from_four n l =
-    let x : n / 65536 ≡ n / 256 / 256 = omega arith in
-    let y : n / 16777216 ≡ n / 65536 / 256 = omega arith in
-    let z : n / 16777216 < 256 = omega arith in
-    let u : n / 16777216 % 256 ≡ n / 16777216 = omega arith in
-    let v : n / 65536 ≡ n / 16777216 * 256 + n / 65536 % 256 = omega arith in
-    let w : n / 256 ≡ n / 65536 * 256 + n / 256 % 256 = omega arith in
-    let t : n ≡ n / 256 * 256 + n % 256 = omega arith in
-    omega arith
+from_four n l = from_be_bytes-to_be_bytes_4 n l
 
 module _ (a b : ℕ) (la : a < 256) (lb : b < 256) where
   two_high : (a * 256 + b) / 256 % 256 ≡ a

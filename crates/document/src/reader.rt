@@ -25,7 +25,7 @@ pub fn read<'a>(file: &'a [u8]) -> Result<Document<'a>, FileFault>
 }
 
 // What a document of one kind holds.
-fn read_only<'a>(kind: Kind, file: &'a [u8]) -> Result<Contents<'a>, FileFault>
+fn read_of_kind<'a>(kind: Kind, file: &'a [u8]) -> Result<Contents<'a>, FileFault>
     ensures { MatchResult result (λ d. Reads (Some kind) file.now (contents_paper (letter_for kind) d)) (λ f. Rejects (Some kind) file.now f.fault) }
 {
     let document = read_as(Some(kind), file)?;
@@ -36,12 +36,12 @@ fn read_only<'a>(kind: Kind, file: &'a [u8]) -> Result<Contents<'a>, FileFault>
 pub fn read_tree<'a>(file: &'a [u8]) -> Result<Contents<'a>, FileFault>
     ensures { MatchResult result (λ d. Reads (Some Tree) file.now (contents_paper tree_letter d)) (λ f. Rejects (Some Tree) file.now f.fault) }
 {
-    read_only(Kind::Tree, file)
+    read_of_kind(Kind::Tree, file)
 }
 
 // The refutation that a file is; a tree is refused by its letter.
 pub fn read_refutation<'a>(file: &'a [u8]) -> Result<Contents<'a>, FileFault>
     ensures { MatchResult result (λ d. Reads (Some Refutation) file.now (contents_paper refutation_letter d)) (λ f. Rejects (Some Refutation) file.now f.fault) }
 {
-    read_only(Kind::Refutation, file)
+    read_of_kind(Kind::Refutation, file)
 }

@@ -1,5 +1,5 @@
 use Rattle.std.proofs.Common.{◌≡◌, ◌-◌, take, sym, ◌∙◌, subst, arith, None}
-use Rattle.std.proofs.lemmas.Result.{MatchResult-weaker}
+use Rattle.std.proofs.lemmas.Result.{MatchResult-weaker, err_from_is_err_and}
 use Rattle.document.specs.Checks.{paper_of}
 use Rattle.document.specs.Files.{Reads, file_tests}
 use Rattle.document.proofs.Orders.{not_both}
@@ -14,3 +14,8 @@ returns c =
     MatchResult-weaker c.read.result c.read.ensures
     (λ d h. (h.says ∙ sym back.says, w.passed))
     (λ f h. absurd (not_both (file_tests None (take (n - 0) c.write.new.out)) f.fault back.passed h.first))
+
+pub returns-in_err-bytes : goal.returns-in_err-bytes
+returns-in_err-bytes c =
+    let p = err_from_is_err_and c.from_residual.result c.from_residual.ensures.1 in
+    rw (p.1, p.2) c.in_err-bytes.ensures.1
