@@ -14,6 +14,9 @@ places hints free = map Some hints ++ replicate free None
 abbrev in_use : List (Option Hint) → List Hint
 in_use entries = filter_map (λ entry. entry) entries
 
+abbrev HintsFirst : List (Option Hint) → Type 0
+HintsFirst entries = entries ≡ places (in_use entries) (8 - length (in_use entries))
+
 length-places : (hints : List Hint) (free : ℕ) → length (places hints free) ≡ length hints + free
 length-places hints free = simp (length-append, length-map, length-replicate) refl
 
@@ -39,8 +42,10 @@ written : (hints : List Hint) (free : ℕ) (hint : Hint) → place_of hint.guess
 written [] zero hint room = absurd (omega arith)
 written [] (suc free) hint room = (free, refl)
 written (x ∷ xs) free hint room =
+    let table : List (Option Hint) = places (x ∷ xs) free in
+    let later : ℕ = suc (place_of hint.guess xs) in
     elim (x.guess == hint.guess)
-    as (λ t. cond t 0 (suc (place_of hint.guess xs)) < length (places (x ∷ xs) free) → (left : ℕ) × (slice_set (places (x ∷ xs) free) (cond t 0 (suc (place_of hint.guess xs))) (Some hint) ≡ places (cond t (hint ∷ xs) (x ∷ entered xs hint)) left)) [
+    as (λ t. cond t 0 later < length table → (left : ℕ) × (slice_set table (cond t 0 later) (Some hint) ≡ places (cond t (hint ∷ xs) (x ∷ entered xs hint)) left)) [
       | true ↦ λ _. (free, refl)
       | false ↦ λ more.
           let rest = written xs free hint (omega arith) in
@@ -49,7 +54,7 @@ written (x ∷ xs) free hint room =
     room
 
 -- the table once a hint is written at its place
-module _ (entries : List (Option Hint)) (hints : List Hint) (at : ℕ) (hint : Hint) (packed : entries ≡ places (in_use entries) (8 - length (in_use entries))) (same : in_use entries ≡ hints) (here : at ≡ place_of hint.guess hints) (room : at < length entries) where
+module _ (entries : List (Option Hint)) (hints : List Hint) (at : ℕ) (hint : Hint) (packed : HintsFirst entries) (same : in_use entries ≡ hints) (here : at ≡ place_of hint.guess hints) (room : at < length entries) where
   table : entries ≡ places hints (8 - length hints)
   table = packed ∙ ap (λ l. places l (8 - length l)) same
 
@@ -64,7 +69,7 @@ module _ (entries : List (Option Hint)) (hints : List Hint) (at : ℕ) (hint : H
   left_over : length entries ≡ 8 → placed.0 ≡ 8 - length (entered hints hint)
   left_over long = omega (arith, ap length placed.1, length-set entries at (Some hint), length-places (entered hints hint) placed.0)
 
-  pub still_packed : length entries ≡ 8 → slice_set entries at (Some hint) ≡ places (in_use (slice_set entries at (Some hint))) (8 - length (in_use (slice_set entries at (Some hint))))
+  pub still_packed : length entries ≡ 8 → HintsFirst (slice_set entries at (Some hint))
   still_packed long = placed.1 ∙ ap (places (entered hints hint)) (left_over long) ∙ ap (λ l. places l (8 - length l)) (sym entered_at)
 
 -- whether a code agrees with the hints from one on
