@@ -1,5 +1,5 @@
 -- The checks that a document is put to. Assumes nothing.
-use Rattle.std.specs.Prelude.{◌≡◌, ℕ, ◌*◌, ◌/◌, ◌<◌, ◌≤◌, cond, ◌⊎◌, List, [], ◌∷◌, length, ◌==◌, slice_index, Result, MatchResult, Option, Some, None}
+use Rattle.std.specs.Prelude.{◌≡◌, ℕ, ◌*◌, ◌/◌, ◌<◌, ◌≤◌, cond, ◌⊎◌, List, [], ◌∷◌, length, ◌==◌, slice_index, Result, MatchResult, Option, Some, None, codes}
 use Rattle.fault.specs.declared.Check.{Check}
 use Rattle.fault.specs.declared.Check.TheVariants.{KindOrEdition, Lengths, TitleByte, Figure, RecordForm}
 use Rattle.fault.specs.declared.Place.TheVariants.{Record}
@@ -22,6 +22,11 @@ kind_of letter = cond (letter == 84) Tree Refutation
 abbrev pub letter_for : Kind → ℕ
 letter_for Tree = 84
 letter_for Refutation = 82
+
+-- what is printed for a kind of document
+abbrev pub kind_text : Kind → List ℕ
+kind_text Tree = codes "tree"
+kind_text Refutation = codes "refutation"
 
 -- the letters that a call takes, of either kind or of one alone
 abbrev pub Taken : Option Kind → ℕ → Type 0

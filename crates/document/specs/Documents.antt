@@ -2,6 +2,8 @@
 use Rattle.document.specs.declared.sheet.Contents.{Contents}
 use Rattle.document.specs.declared.judge.Document.{Document}
 use Rattle.document.specs.declared.judge.Document.TheVariants.{Tree, Refutation}
+use Rattle.document.specs.declared.kind.Kind.{Kind}
+use Rattle.document.specs.declared.kind.Kind.TheVariants.{Tree as a_tree, Refutation as a_refutation}
 use Rattle.document.specs.Bytes.{Paper}
 use Rattle.std.specs.Prelude.{ℕ}
 
@@ -16,6 +18,11 @@ tree_letter = 84
 -- the letter R
 abbrev pub refutation_letter : ℕ
 refutation_letter = 82
+
+-- whether a document is a tree or a refutation
+abbrev pub kind_of_document : Document → Kind
+kind_of_document (Tree d) = a_tree
+kind_of_document (Refutation d) = a_refutation
 
 -- what a document holds, of either kind
 abbrev pub contents_of : Document → Contents

@@ -12,6 +12,7 @@ use fault::{Check, Place};
 // What the last 24 bytes of a file say, right or wrong.
 #[derive(Clone, Copy, PartialEq, Eq, Debug)]
 pub(crate) struct Trailer {
+    // A byte and no `Kind`, since the bytes can say any letter, and which are taken is asked later.
     letter: u8,
     edition: u8,
     title: u16,

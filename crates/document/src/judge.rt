@@ -2,7 +2,7 @@
 ghost use Rattle.std.specs.Prelude.{◌≡◌, MatchResult};
 ghost use Rattle.document.specs.Order.{Passed, Refused};
 ghost use Rattle.document.specs.Checks.{paper_of, paper_tests, letter_for};
-ghost use Rattle.document.specs.Documents.{contents_of, contents_paper, document_paper};
+ghost use Rattle.document.specs.Documents.{kind_of_document, contents_of, contents_paper, document_paper};
 
 use crate::kind::Kind;
 use crate::sheet::{
@@ -18,6 +18,15 @@ pub enum Document<'a> {
 }
 
 impl<'a> Document<'a> {
+    pub fn kind(self) -> Kind
+        ensures { result ≡ kind_of_document self.entry }
+    {
+        match self {
+            Document::Tree(_) => Kind::Tree,
+            Document::Refutation(_) => Kind::Refutation,
+        }
+    }
+
     // What the document holds, of either kind.
     pub fn contents(self) -> Contents<'a>
         ensures { result ≡ contents_of self.entry }
@@ -32,17 +41,14 @@ impl<'a> From<Document<'a>> for Sheet<'a> {
     ghost from_gives = { λ document sheet. paper_of sheet ≡ document_paper document };
 
     fn from(document: Document<'a>) -> Sheet<'a> {
-        let kind = match document {
-            Document::Tree(_) => Kind::Tree,
-            Document::Refutation(_) => Kind::Refutation,
-        };
         Sheet {
-            letter: kind.into(),
+            letter: document.kind().into(),
             contents: document.contents(),
         }
     }
 }
 
+// A function and no `From`, which would take a pair: two arguments read plainer.
 fn document_of<'a>(kind: Kind, contents: Contents<'a>) -> Document<'a>
     ensures { document_paper result ≡ contents_paper (letter_for kind) contents.entry }
 {

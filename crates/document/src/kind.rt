@@ -1,15 +1,27 @@
 // The kinds of document, and the letters that stand for them in a file.
-ghost use Rattle.std.specs.Prelude.{◌≡◌};
-ghost use Rattle.document.specs.Checks.{letter_for, Spelled};
+ghost use Rattle.std.specs.Prelude.{◌≡◌, Some};
+ghost use Rattle.document.specs.Checks.{letter_for, kind_text, Spelled};
 
 use crate::sheet::FileFault;
 use fault::{Check, Place};
+use std::fmt;
 
 // What a document is: a tree of guesses, or a refutation.
 #[derive(Clone, Copy, PartialEq, Eq, Debug)]
 pub enum Kind {
     Tree,
     Refutation,
+}
+
+impl fmt::Display for Kind {
+    ghost output = { λ kind. Some (kind_text kind) };
+
+    fn fmt<W: fmt::Write>(&self, f: &mut fmt::Formatter<W>) -> fmt::Result {
+        match self {
+            Kind::Tree => f.write_str("tree"),
+            Kind::Refutation => f.write_str("refutation"),
+        }
+    }
 }
 
 impl TryFrom<u8> for Kind {

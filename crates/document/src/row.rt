@@ -20,6 +20,7 @@ pub(crate) fn lowest_late(
     requires { (low ≤ i) × (i ≤ length records.now) }
     ensures { Tells kind (chunk_at records.now) low i result }
 {
+    // A `while`, since each step goes back over a span and no index is counted.
     let mut end = i;
     let mut found = None;
     while low < end {

@@ -2,10 +2,7 @@
 use document::{Document, FileFault, read};
 
 fn show_document(rt: &impl Print, document: Document<'_>) -> anyhow::Result<()> {
-    let kind = match document {
-        Document::Tree(_) => "tree",
-        Document::Refutation(_) => "refutation",
-    };
+    let kind = document.kind();
     let contents = document.contents();
     let title = contents.title.len();
     let records = contents.records.len() / 12;

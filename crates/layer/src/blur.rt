@@ -14,6 +14,7 @@ use rule::{AnswerRule, all_answers, byte_at};
 #[derive(Drop)]
 pub struct Blur<R> {
     below: R,
+    // Fixed memory, since a layer takes none from the heap: a blur has as many bytes as the rule below has answers, at most 64.
     sends: [u8; 64],
     answers: u8,
 }
@@ -101,6 +102,7 @@ impl<R: AnswerRule> AnswerRule for Blur<R> {
 
     ghost lawful = { λ layer. any_blur_lawful (R.meaning layer.below) (R.lawful layer.below) layer.sends layer.answers };
 
+    // Each layer passes these questions on by itself: an `impl` for all layers at once cannot stand in another crate than the trait.
     fn code_bound(&self) -> u32 {
         self.below.code_bound()
     }

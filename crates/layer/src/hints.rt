@@ -42,6 +42,7 @@ impl<R: AnswerRule> Hints<R> {
     fn agrees(&self, code: u32) -> bool
         ensures { result ≡ agrees (R.meaning self.now.below) code self.now.notes }
     {
+        // A rule of the project fixes this form: each entry is read by a function of the table, then the rule below is asked.
         for at in 0..PLACES {
             let Some(hint) = self.notes.entry(at) else {
                 return true;
@@ -59,6 +60,7 @@ impl<R: AnswerRule> AnswerRule for Hints<R> {
 
     ghost lawful = { λ layer. hinted_lawful (R.meaning layer.below) (R.lawful layer.below) layer.notes };
 
+    // Each layer passes these questions on by itself: an `impl` for all layers at once cannot stand in another crate than the trait.
     fn code_bound(&self) -> u32 {
         self.below.code_bound()
     }

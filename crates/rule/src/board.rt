@@ -56,7 +56,7 @@ impl Board {
         Row::of(number, u32::from(self.colours), u32::from(self.pegs))
     }
 
-    // How often each colour comes in the row of a number.
+    // How often each colour comes in the row of a number: an array by colour, since a rule takes no memory from the heap.
     fn counts(&self, number: u32) -> [u8; 10]
         ensures ten { length result ≡ 10 }
         ensures each { (k : ℕ) → k < 10 → slice_index result k ≡ occurs k (row_on self.now number) }
