@@ -6,7 +6,7 @@ use Rattle.document.specs.declared.file.Trailer.{Trailer}
 use Rattle.fault.specs.declared.Fault.{Fault}
 use Rattle.document.specs.declared.kind.Kind.{Kind}
 use Rattle.document.specs.declared.kind.Kind.TheVariants.{Tree, Refutation}
-use Rattle.document.specs.Bytes.{four_at, record_at, trailer, Paper, encode, size}
+use Rattle.document.specs.Bytes.{four_at, record_at, Paper, ending, encode, size}
 use Rattle.document.specs.Forms.{Faulty}
 use Rattle.document.specs.Order.{Passed, Refused}
 use Rattle.document.specs.Checks.{kind_of, Taken, Sized, Printable, Ranged, paper_tests}
@@ -25,11 +25,7 @@ taken_either (Some Refutation) letter h = inr h
 pub size_is : (p : Paper) → length (encode p) ≡ size p
 size_is p = simp length-append (omega arith)
 
--- the last bytes of a paper
-abbrev ending : Paper → List ℕ
-ending p = trailer p.letter (length p.title) (length p.records / 12) p.first p.second p.game
-
--- what they say
+-- what the trailer of a paper says
 abbrev said : Paper → Trailer
 said p =
     record {

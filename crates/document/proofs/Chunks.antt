@@ -60,16 +60,20 @@ module _ (bs : List ℕ) (long : 24 ≤ length bs) where
       ∙ get_or-drop (length bs % 4) bs (4 * (length bs / 4 - 6 + i) + j) 0
       ∙ ap (λ m. get_or bs m 0) there
 
+  word_is : (i at : ℕ) → i < 6 → at ≡ length bs - 24 + 4 * i → four_at (get_or (drop (length bs / 4 - 6) (first_chunks 4 (length bs / 4) (drop (length bs % 4) bs))) i []) 0 ≡ four_at bs at
+  word_is i at here is = four_in _ bs 4 (length bs - 24 + 4 * i) (λ j inside. word_byte i j here inside) 0 at (omega arith) (omega arith)
+
   pub trailer_there : trailer_by (drop (length bs / 4 - 6) (first_chunks 4 (length bs / 4) (drop (length bs % 4) bs))) ≡ trailer_in bs
   trailer_there =
-      let ws = drop (length bs / 4 - 6) (first_chunks 4 (length bs / 4) (drop (length bs % 4) bs)) in
       let t = length bs - 24 in
-      let letter = one_in (get_or ws 0 []) bs 4 (t + 4 * 0) (λ j inside. word_byte 0 j (omega arith) inside) 0 t (omega arith) (omega arith) in
-      let edition = one_in (get_or ws 0 []) bs 4 (t + 4 * 0) (λ j inside. word_byte 0 j (omega arith) inside) 1 (t + 1) (omega arith) (omega arith) in
-      let title = two_in (get_or ws 0 []) bs 4 (t + 4 * 0) (λ j inside. word_byte 0 j (omega arith) inside) 2 (t + 2) (omega arith) (omega arith) in
-      let count = four_in (get_or ws 1 []) bs 4 (t + 4 * 1) (λ j inside. word_byte 1 j (omega arith) inside) 0 (t + 4) (omega arith) (omega arith) in
-      let first = four_in (get_or ws 2 []) bs 4 (t + 4 * 2) (λ j inside. word_byte 2 j (omega arith) inside) 0 (t + 8) (omega arith) (omega arith) in
-      let second = four_in (get_or ws 3 []) bs 4 (t + 4 * 3) (λ j inside. word_byte 3 j (omega arith) inside) 0 (t + 12) (omega arith) (omega arith) in
-      let distance = four_in (get_or ws 4 []) bs 4 (t + 4 * 4) (λ j inside. word_byte 4 j (omega arith) inside) 0 (t + 16) (omega arith) (omega arith) in
-      let game = four_in (get_or ws 5 []) bs 4 (t + 4 * 5) (λ j inside. word_byte 5 j (omega arith) inside) 0 (t + 20) (omega arith) (omega arith) in
+      let head = get_or (drop (length bs / 4 - 6) (first_chunks 4 (length bs / 4) (drop (length bs % 4) bs))) 0 [] in
+      let same = λ (j : ℕ) (inside : j < 4). word_byte 0 j (omega arith) inside in
+      let letter = one_in head bs 4 (t + 4 * 0) same 0 t (omega arith) (omega arith) in
+      let edition = one_in head bs 4 (t + 4 * 0) same 1 (t + 1) (omega arith) (omega arith) in
+      let title = two_in head bs 4 (t + 4 * 0) same 2 (t + 2) (omega arith) (omega arith) in
+      let count = word_is 1 (t + 4) (omega arith) (omega arith) in
+      let first = word_is 2 (t + 8) (omega arith) (omega arith) in
+      let second = word_is 3 (t + 12) (omega arith) (omega arith) in
+      let distance = word_is 4 (t + 16) (omega arith) (omega arith) in
+      let game = word_is 5 (t + 20) (omega arith) (omega arith) in
       λ k. record { letter = letter k; edition = edition k; title = title k; count = count k; first = first k; second = second k; distance = distance k; game = game k }

@@ -160,28 +160,28 @@ module _ (kind : Kind) (at : ℕ → Record) where
   stays low end (Ok None) tells = tells
   stays low end (Ok (Some p)) tells = tells
 
+  -- one sibling more, whether it rises above the one before it or not
+  one_more : (low end : ℕ) → low < end → (at (end - 1)).span ≤ end - 1 - low → (r : Result (Option ℕ) Misfit) → Tells kind at low (end - 1 - (at (end - 1)).span) r → (r : Result (Option ℕ) Misfit) × Tells kind at low end r
+  one_more low end inside fits r tells =
+      let c = end - 1 in
+      let next = c - (at c).span in
+      ⊎_elim
+      (λ (more : low < next). ⊎_elim
+      (λ (up : key kind (at (next - 1)) < key kind (at c)). (over None r, turn_rising kind at low None end end (at c) (stays low end) refl inside fits (λ _. up) r tells))
+      (λ (down : key kind (at c) ≤ key kind (at (next - 1))). (over (Some c) r, turn_late kind at low None end end (at c) (stays low end) refl inside fits more down r tells))
+      (cases_lt (key kind (at (next - 1))) (key kind (at c))))
+      (λ (alone : next ≤ low). (over None r, turn_rising kind at low None end end (at c) (stays low end) refl inside fits (λ more. absurd (omega arith)) r tells))
+      (cases_lt low next)
+
   -- what the records between two places tell, whichever they are
   pub row_told : (fuel low end : ℕ) → end ≤ fuel → low ≤ end → (r : Result (Option ℕ) Misfit) × Tells kind at low end r
   row_told zero low end in' begins = (Ok None, ([], omega arith, λ d b. b.1))
   row_told (suc fuel) low end in' begins =
+      let c = end - 1 in
       ⊎_elim
       (λ (inside : low < end). ⊎_elim
-      (λ (long : end - 1 - low < (at (end - 1)).span). (Err (record {}), turn_broken kind at low None end end (at (end - 1)) (stays low end) refl inside long (record {})))
-      (λ (fits : (at (end - 1)).span ≤ end - 1 - low).
-      let next = end - 1 - (at (end - 1)).span in
-      let below = row_told fuel low (end - 1 - (at (end - 1)).span) (omega arith) (omega arith) in
-      ⊎_elim
-      (λ (down : (low < end - 1 - (at (end - 1)).span) × (key kind (at (end - 1)) ≤ key kind (at (end - 1 - (at (end - 1)).span - 1)))).
-      (over (Some (end - 1)) below.0, turn_late kind at low None end end (at (end - 1)) (stays low end) refl inside fits down.0 down.1 below.0 below.1))
-      (λ (up : low < end - 1 - (at (end - 1)).span → key kind (at (end - 1 - (at (end - 1)).span - 1)) < key kind (at (end - 1))).
-      (over None below.0, turn_rising kind at low None end end (at (end - 1)) (stays low end) refl inside fits up below.0 below.1))
-      (⊎_elim
-      (λ (more : low < end - 1 - (at (end - 1)).span). ⊎_elim
-      (λ (u : key kind (at (end - 1 - (at (end - 1)).span - 1)) < key kind (at (end - 1))). inr (λ _. u))
-      (λ (d : key kind (at (end - 1)) ≤ key kind (at (end - 1 - (at (end - 1)).span - 1))). inl (more, d))
-      (cases_lt (key kind (at (end - 1 - (at (end - 1)).span - 1))) (key kind (at (end - 1)))))
-      (λ (none : end - 1 - (at (end - 1)).span ≤ low). inr (λ more. absurd (omega arith)))
-      (cases_lt low (end - 1 - (at (end - 1)).span))))
-      (cases_lt (end - 1 - low) (at (end - 1)).span))
+      (λ (long : c - low < (at c).span). (Err (record {}), turn_broken kind at low None end end (at c) (stays low end) refl inside long (record {})))
+      (λ (fits : (at c).span ≤ c - low). let below = row_told fuel low (c - (at c).span) (omega arith) (omega arith) in one_more low end inside fits below.0 below.1)
+      (cases_lt (c - low) (at c).span))
       (λ (done : end ≤ low). (Ok None, ([], omega arith, λ d b. b.1)))
       (cases_lt low end)

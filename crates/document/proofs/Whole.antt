@@ -2,7 +2,7 @@
 use Rattle.std.proofs.Common.{◌≡◌, ℕ, ◌+◌, ◌-◌, ◌*◌, ◌/◌, ◌<◌, ◌≤◌, List, [], ◌∷◌, ◌++◌, length, get_or, take, drop, sym, refl, ap, ◌∙◌, arith}
 use Rattle.std.proofs.lemmas.List.{drop_all, append-nil, take-append-drop, drop-drop, length-take, length-drop}
 use Rattle.document.specs.declared.file.Trailer.{Trailer}
-use Rattle.document.specs.Bytes.{two, four, four_at, trailer, encode}
+use Rattle.document.specs.Bytes.{two, four, four_at, ending, encode}
 use Rattle.document.specs.Files.{trailer_in, Agreed, paper_in}
 use Rattle.document.proofs.Coding.{front, two_front, four_front}
 
@@ -32,7 +32,7 @@ module _ (bs : List ℕ) (bytes : (i : ℕ) → get_or bs i 0 < 256) where
     pub records_count : length (paper_in bs).records / 12 ≡ (trailer_in bs).count
     records_count = omega (arith, records_length)
 
-    trailer_is : trailer (trailer_in bs).letter (length (paper_in bs).title) (length (paper_in bs).records / 12) (trailer_in bs).first (trailer_in bs).second (trailer_in bs).game ≡ tail (trailer_in bs)
+    trailer_is : ending (paper_in bs) ≡ tail (trailer_in bs)
     trailer_is = simp (title_length, records_count, edition, agreed.back)
 
     pub encode_in : encode (paper_in bs) ≡ bs
@@ -40,6 +40,6 @@ module _ (bs : List ℕ) (bytes : (i : ℕ) → get_or bs i 0 < 256) where
         let m = (trailer_in bs).title in
         let n = 12 * (trailer_in bs).count in
         let start : length bs - 24 ≡ m + n = omega (arith, agreed.all) in
-        let rest : trailer (trailer_in bs).letter (length (paper_in bs).title) (length (paper_in bs).records / 12) (trailer_in bs).first (trailer_in bs).second (trailer_in bs).game ≡ drop n (drop m bs) =
+        let rest : ending (paper_in bs) ≡ drop n (drop m bs) =
         trailer_is ∙ tail_in (omega (arith, agreed.all)) ∙ ap (λ k. drop k bs) start ∙ sym (drop-drop n m bs) in
         ap (λ l. take m bs ++ (take n (drop m bs) ++ l)) rest ∙ ap (λ l. take m bs ++ l) (take-append-drop n (drop m bs)) ∙ take-append-drop m bs

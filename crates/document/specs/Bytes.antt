@@ -66,9 +66,13 @@ pub record Paper : Type 0 where
   pub second : ℕ
   pub game : ℕ
 
+-- the trailer of a paper
+abbrev pub ending : Paper → List ℕ
+ending p = trailer p.letter (length p.title) (length p.records / 12) p.first p.second p.game
+
 -- the bytes of a document
 abbrev pub encode : Paper → List ℕ
-encode p = p.title ++ (p.records ++ trailer p.letter (length p.title) (length p.records / 12) p.first p.second p.game)
+encode p = p.title ++ (p.records ++ ending p)
 
 -- how many bytes a document has
 abbrev pub size : Paper → ℕ

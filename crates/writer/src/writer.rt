@@ -1,7 +1,7 @@
 // Documents written into a buffer of the caller's.
-ghost use Rattle.std.specs.Prelude.{◌≡◌, ◌+◌, ◌/◌, ◌<◌, ◌≤◌, ◌++◌, length, take, drop, MatchResult};
+ghost use Rattle.std.specs.Prelude.{◌≡◌, ◌+◌, ◌<◌, ◌≤◌, ◌++◌, length, take, drop, MatchResult};
 ghost use Rattle.std.specs.List.{flat_map};
-ghost use Rattle.document.specs.Bytes.{trailer, encode, size};
+ghost use Rattle.document.specs.Bytes.{ending, encode, size};
 ghost use Rattle.document.specs.Order.{Refused};
 ghost use Rattle.document.specs.Checks.{paper_of, Sized};
 ghost use Rattle.writer.specs.Writing.{write_tests, Writes};
@@ -27,7 +27,7 @@ impl<'a> Measured<'a> {
 
     // The trailer, in groups of four bytes.
     fn trailer(self) -> [[u8; 4]; 6]
-        ensures bytes { flat_map (λ word. word) result ≡ trailer self.entry.sheet.letter (length self.entry.sheet.contents.title.now) (length self.entry.sheet.contents.records.now / 12) self.entry.sheet.contents.first self.entry.sheet.contents.second self.entry.sheet.contents.game }
+        ensures bytes { flat_map (λ word. word) result ≡ ending (paper_of self.entry.sheet) }
         ensures fits { self.entry.sheet.contents.game < 4294967296 }
     {
         let contents = self.sheet.contents;
