@@ -1,5 +1,6 @@
 pub mod Coins
 pub mod Digits
+pub mod Making
 pub mod Meaning
 pub mod Pegs
 pub mod Rules

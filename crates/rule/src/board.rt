@@ -20,17 +20,16 @@ pub struct Board {
 }
 
 impl Board {
-    ghost use Rattle.std.specs.Prelude.{◌≡◌, ℕ, ◌^◌, ◌<◌, true, false, length, MatchResult, slice_index};
+    ghost use Rattle.std.specs.Prelude.{◌≡◌, ℕ, ◌^◌, ◌<◌, length, slice_index};
     ghost use Rattle.fault.specs.declared.Check.TheVariants.{GameParameters};
-    ghost use Rattle.fault.specs.Faults.{refusal};
+    ghost use Rattle.rule.specs.Making.{Makes};
     ghost use Rattle.rule.specs.Digits.{last_digits, occurs, different};
     ghost use Rattle.rule.specs.Pegs.{board_fits, is_row, equal_places, shared, pairs, peg_answer};
     ghost use Rattle.rule.specs.Rules.{row_on};
 
     pub(crate) fn new(pegs: u32, colours: u32, repeats: bool) -> Result<Board, Fault>
-        ensures { MatchResult result
-            (λ b. (board_fits pegs colours repeats ≡ true) × (b.pegs ≡ pegs) × (b.colours ≡ colours) × (b.repeats ≡ repeats))
-            (λ f. (board_fits pegs colours repeats ≡ false) × (f ≡ refusal GameParameters)) }
+        ensures { Makes result (board_fits pegs colours repeats) GameParameters
+            (λ board. (board.pegs ≡ pegs) × (board.colours ≡ colours) × (board.repeats ≡ repeats)) }
     {
         if pegs < 1 || pegs > 6 || colours < 2 || colours > 10 {
             return Err(Check::GameParameters.at(Place::Nowhere));

@@ -1,7 +1,7 @@
 // The game of the false coin: weighings on a balance.
-ghost use Rattle.std.specs.Prelude.{◌≡◌, true, false, MatchResult};
+ghost use Rattle.std.specs.Prelude.{◌≡◌};
 ghost use Rattle.fault.specs.declared.Check.TheVariants.{GameParameters};
-ghost use Rattle.fault.specs.Faults.{refusal};
+ghost use Rattle.rule.specs.Making.{Makes};
 ghost use Rattle.rule.specs.Coins.{coins_fit, coins as coin_game};
 ghost use Rattle.rule.specs.Laws.Kept.{coins_rule};
 ghost use Rattle.rule.specs.Rules.{coins_of};
@@ -17,9 +17,7 @@ pub struct Coins {
 
 impl Coins {
     pub fn new(coins: u32) -> Result<Coins, Fault>
-        ensures { MatchResult result
-            (λ rule. (coins_fit coins ≡ true) × (coins_of rule ≡ coin_game coins))
-            (λ f. (coins_fit coins ≡ false) × (f ≡ refusal GameParameters)) }
+        ensures { Makes result (coins_fit coins) GameParameters (λ rule. coins_of rule ≡ coin_game coins) }
     {
         if coins < 2 || coins > 12 {
             return Err(Check::GameParameters.at(Place::Nowhere));
@@ -60,7 +58,7 @@ impl AnswerRule for Coins {
     }
 
     fn answer(&self, code: u32, guess: u32) -> u8 {
-        if code < 2 * self.set.coins() && self.set.is_weighing(guess) {
+        if self.is_code(code) && self.admits(guess) {
             self.set.weigh(code, guess)
         } else {
             3

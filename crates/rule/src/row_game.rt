@@ -1,7 +1,7 @@
 // The games whose codes and guesses are rows of coloured pegs, whichever way two rows are compared.
-ghost use Rattle.std.specs.Prelude.{◌≡◌, ℕ, ◌^◌, ◌<◌, ◌≤◌, Bool, true, false, MatchResult};
+ghost use Rattle.std.specs.Prelude.{◌≡◌, ℕ, ◌^◌, ◌<◌, ◌≤◌, Bool};
 ghost use Rattle.fault.specs.declared.Check.TheVariants.{GameParameters};
-ghost use Rattle.fault.specs.Faults.{refusal};
+ghost use Rattle.rule.specs.Making.{Makes};
 ghost use Rattle.rule.specs.Meaning.{Lawful};
 ghost use Rattle.rule.specs.Pegs.{board_fits, row_game};
 
@@ -36,10 +36,8 @@ pub struct RowGame<M> {
 
 impl<M: Marking> RowGame<M> {
     pub fn new(pegs: u32, colours: u32, repeats: bool) -> Result<RowGame<M>, Fault>
-        ensures { MatchResult result
-            (λ rule. (board_fits pegs colours repeats ≡ true)
-            × (row_game M.answers M.answer rule.board.pegs rule.board.colours rule.board.repeats ≡ row_game M.answers M.answer pegs colours repeats))
-            (λ f. (board_fits pegs colours repeats ≡ false) × (f ≡ refusal GameParameters)) }
+        ensures { Makes result (board_fits pegs colours repeats) GameParameters
+            (λ rule. row_game M.answers M.answer rule.board.pegs rule.board.colours rule.board.repeats ≡ row_game M.answers M.answer pegs colours repeats) }
     {
         Ok(RowGame {
             board: Board::new(pegs, colours, repeats)?,
@@ -80,7 +78,7 @@ impl<M: Marking> AnswerRule for RowGame<M> {
     }
 
     fn answer(&self, code: u32, guess: u32) -> u8 {
-        if self.board.holds(code) && self.board.holds(guess) {
+        if self.is_code(code) && self.admits(guess) {
             M::answer(&self.board, code, guess)
         } else {
             M::answers(&self.board)

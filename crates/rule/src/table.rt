@@ -1,7 +1,7 @@
 // The game given by a table of its answers. The table goes by guesses, and the row of a guess has what each code answers.
-ghost use Rattle.std.specs.Prelude.{◌≡◌, true, false, MatchResult, slice_index};
+ghost use Rattle.std.specs.Prelude.{◌≡◌, slice_index};
 ghost use Rattle.fault.specs.declared.Check.TheVariants.{TableShape};
-ghost use Rattle.fault.specs.Faults.{refusal};
+ghost use Rattle.rule.specs.Making.{Makes};
 ghost use Rattle.rule.specs.Laws.Kept.{table_rule};
 ghost use Rattle.rule.specs.Rules.{table_of};
 ghost use Rattle.rule.specs.Table.{all_under, table_fits, table as table_game};
@@ -20,9 +20,8 @@ pub struct Table<'a> {
 impl<'a> Table<'a> {
     // The bytes stay the caller's: they are lent for as long as the rule lives.
     pub fn new(bytes: &'a [u8], rows: u32, codes: u32, answers: u8) -> Result<Table<'a>, Fault>
-        ensures { MatchResult result
-            (λ rule. (table_fits rows codes answers bytes.now ≡ true) × (table_of rule ≡ table_game rows codes answers bytes.now))
-            (λ f. (table_fits rows codes answers bytes.now ≡ false) × (f ≡ refusal TableShape)) }
+        ensures { Makes result (table_fits rows codes answers bytes.now) TableShape
+            (λ rule. table_of rule ≡ table_game rows codes answers bytes.now) }
     {
         let table = Table {
             bytes,

@@ -22,7 +22,7 @@ sum-requires-clause-fits c =
     let p = c.args.self.now.pegs in
     let b = c.args.self.now.colours in
     let le = shared_le b (digits p b c.args.code) (digits p b c.args.guess) (digits_below p b c.args.code (omega arith)) in
-    fits_by_from_yields_list (λ both. min both.0 both.1) (zip c.counts-left.result c.counts-right.result) c.map.result _
+    fits_by_from_yields_list (λ both. min both.0 both.1) (zip c.counts-left.result c.counts-right.result) c.map.result 256
     (YieldsList-from_map _ (λ both. min both.0 both.1)
     (YieldsList-at c.map.ensures.source
     (YieldsList-from_zip (YieldsList-from_slice c.counts-left.result cc) (YieldsList-from_slice c.counts-right.result cc)))
