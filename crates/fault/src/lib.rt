@@ -2,7 +2,7 @@
 #![tactic(auto)]
 
 ghost use Rattle.std.specs.Prelude.{◌≡◌, Some};
-ghost use Rattle.fault.specs.Faults.{number_of, stage_of, fault_at, place_text};
+ghost use Rattle.fault.specs.Faults.{number_of, stage_of, fault_at, refusal, place_text};
 
 use std::fmt;
 
@@ -36,7 +36,7 @@ impl fmt::Display for Place {
     }
 }
 
-// A rule of the project fixes that a fault has a number, a stage and a place; the number is that of the check that refused.
+// The number is kept as a number: a fault is known by it, its stage and its place, as docs/REFUSALS.md lists them.
 #[derive(Clone, Copy, PartialEq, Eq, Debug)]
 pub struct Fault {
     pub number: u32,
@@ -62,6 +62,7 @@ pub enum Check {
 }
 
 impl Check {
+    // The enum's own numbers, by a cast: a `From` would say no more.
     pub fn number(self) -> u32
         ensures { result ≡ number_of self }
     {
@@ -85,6 +86,13 @@ impl Check {
             | Check::HintPair
             | Check::NinthHint => Stage::Rule,
         }
+    }
+
+    // The fault of this check, which blames no part of the input.
+    pub fn refusal(self) -> Fault
+        ensures { result ≡ refusal self }
+    {
+        self.at(Place::Nowhere)
     }
 
     // The fault of this check at a place.
