@@ -8,7 +8,7 @@ ghost use Rattle.layer.specs.Laws.BlurLaws.{any_blur_lawful};
 ghost use Rattle.rule.specs.Digits.{all_below};
 ghost use Rattle.rule.specs.Table.{nearest};
 
-use fault::{Check, Fault, Place};
+use fault::{Check, Fault};
 use rule::{AnswerRule, all_answers, byte_at};
 
 #[derive(Drop)]
@@ -43,7 +43,7 @@ impl<R: AnswerRule> Blur<R> {
             })
         } else {
             Err(Returned {
-                fault: Check::BlurTable.at(Place::Nowhere),
+                fault: Check::BlurTable.refusal(),
                 below,
             })
         }

@@ -5,7 +5,7 @@ ghost use Rattle.layer.specs.Laws.HintLaws.{hinted_lawful};
 
 use crate::hint::Hint;
 use crate::notes::{Notes, PLACES};
-use fault::{Check, Fault, Place};
+use fault::{Check, Fault};
 use rule::AnswerRule;
 
 #[derive(Drop)]
@@ -33,7 +33,7 @@ impl<R: AnswerRule> Hints<R> {
         ensures below { self.new.below ≡ self.old.below }
     {
         if !self.below.admits(guess) || answer >= self.below.answers() {
-            return Err(Check::HintPair.at(Place::Nowhere));
+            return Err(Check::HintPair.refusal());
         }
         self.notes.enter(Hint { guess, answer })
     }
@@ -42,7 +42,7 @@ impl<R: AnswerRule> Hints<R> {
     fn agrees(&self, code: u32) -> bool
         ensures { result ≡ agrees (R.meaning self.now.below) code self.now.notes }
     {
-        // A rule of the project fixes this form: each entry is read by a function of the table, then the rule below is asked.
+        // Kept in this form (docs/DECISIONS.md): each entry is read by a function of the table, then the rule below is asked.
         for at in 0..PLACES {
             let Some(hint) = self.notes.entry(at) else {
                 return true;

@@ -5,7 +5,7 @@ ghost use Rattle.fault.specs.declared.Check.TheVariants.{NinthHint};
 ghost use Rattle.layer.specs.Hints.{entered, place_of, has_room};
 
 use crate::hint::Hint;
-use fault::{Check, Fault, Place};
+use fault::{Check, Fault};
 use std::marker::Model;
 
 // How many guesses can have a hint.
@@ -62,9 +62,7 @@ impl Notes {
         ensures told { result ≡ (if has_room self.old hint then Ok tt else Err (refusal NinthHint)) }
         ensures after { self.new ≡ (if has_room self.old hint then entered self.old hint else self.old) }
     {
-        let at = self
-            .find(hint.guess)
-            .ok_or(Check::NinthHint.at(Place::Nowhere))?;
+        let at = self.find(hint.guess).ok_or(Check::NinthHint.refusal())?;
         self.entries[at] = Some(hint);
         Ok(())
     }

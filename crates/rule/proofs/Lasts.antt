@@ -1,9 +1,9 @@
 -- What the digits of a number tell, taken from the last to the first. Assumes nothing.
-use Rattle.std.proofs.Common.{◌≡◌, ℕ, zero, suc, ◌+◌, ◌-◌, ◌/◌, ◌%◌, ◌^◌, ◌<◌, ◌≤◌, min, ◌==◌, Bool, true, false, cond, List, [], ◌∷◌, ◌++◌, length, replicate, slice_index, slice_set, nat_le, sym, refl, ap, subst, ◌∙◌, ⊎_elim, arith, div-one, length-set}
+use Rattle.std.proofs.Common.{◌≡◌, ℕ, zero, suc, ◌+◌, ◌-◌, ◌/◌, ◌%◌, ◌^◌, ◌<◌, ◌≤◌, min, ◌==◌, Bool, true, false, cond, List, [], ◌∷◌, ◌++◌, length, replicate, slice_index, nat_le, sym, refl, ap, subst, ◌∙◌, ⊎_elim, arith, div-one}
 use Rattle.std.proofs.Math.Nat.{pow-zero, pow-succ', div-div-eq-div-mul}
 use Rattle.std.proofs.lemmas.Nat.{mod_below}
 use Rattle.std.proofs.lemmas.List.Sums.{sum_by-cons}
-use Rattle.std.proofs.lemmas.List.{get_or-set_same, get_or-set_other, get_or-replicate, get_or_default}
+use Rattle.std.proofs.lemmas.List.{get_or-replicate, get_or_default}
 use Rattle.std.proofs.lemmas.List.Sums.{AllPass-from_list_all, list_all-from_AllPass}
 use Rattle.std.proofs.lemmas.Bool.{and_parts, and_from, both_ways, cases_Bool, cases_eq, eqb-true, eq-eqb, leb-true, le-leb}
 use Rattle.std.specs.List.{zip, count_by, sum_by, list_all}
@@ -77,24 +77,6 @@ tallied_start p b n some few = record {
 -- where the digits still to come are told otherwise
 pub tallied_as : {counts left now : List ℕ} {all : ℕ → ℕ} → left ≡ now → Tallied counts left all → Tallied counts now all
 tallied_as {counts = counts} {all = all} is before = subst (λ l. Tallied counts l all) is before
-
--- one digit more
-pub tallied_more : {counts left rest : List ℕ} {all : ℕ → ℕ} (x : ℕ) → left ≡ x ∷ rest → Tallied counts left all → Tallied (slice_set counts x (slice_index counts x + 1)) rest all
-tallied_more {counts = counts} {rest = rest} {all = all} x is before =
-    let t : Tallied counts (x ∷ rest) all = tallied_as is before in
-    let long : x < length counts = omega (arith, t.ten, t.below.0) in
-    record {
-      ten = length-set counts x (slice_index counts x + 1) ∙ t.ten;
-      below = t.below.1;
-      each = λ k h.
-          ⊎_elim
-          (λ same.
-          let new : slice_index (slice_set counts x (slice_index counts x + 1)) k ≡ slice_index counts x + 1 = ap (slice_index (slice_set counts x (slice_index counts x + 1))) same ∙ get_or-set_same counts x (slice_index counts x + 1) 0 long in
-          let old : slice_index counts k ≡ slice_index counts x = ap (slice_index counts) same in
-          omega (arith, new, old, t.each k h, tally_same x k (sym same)))
-          (λ other. omega (arith, get_or-set_other counts x k (slice_index counts x + 1) 0 other, t.each k h, tally_other x k (λ e. other (sym e))))
-          (cases_eq k x);
-    }
 
 pub occurs_le : (k : ℕ) (xs : List ℕ) → occurs k xs ≤ length xs
 occurs_le k [] = omega arith

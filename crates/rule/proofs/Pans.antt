@@ -1,10 +1,17 @@
 -- Which pan goes down under a code. Assumes nothing.
-use Rattle.std.proofs.Common.{◌≡◌, ℕ, ◌*◌, ◌/◌, ◌%◌, ◌<◌, true, slice_index, ◌≢◌, refl, arith}
+use Rattle.std.proofs.Common.{◌≡◌, ℕ, zero, suc, ◌*◌, ◌/◌, ◌%◌, ◌<◌, true, slice_index, ◌≢◌, refl, arith}
 use Rattle.rule.specs.declared.set.Pan.{Pan}
 use Rattle.rule.specs.declared.set.Pan.TheVariants.{Aside, Left, Right}
-use Rattle.rule.specs.Coins.{is_weighing, weighed, pan_digit, opposite}
+use Rattle.rule.specs.Coins.{is_weighing, weighed, pan_digit, pan_of, opposite}
 use Rattle.rule.specs.Digits.{digits}
 use Rattle.rule.specs.Laws.CoinLaws.{heavy_code, light_aside, light_weighed}
+
+-- a digit to base three is the digit of the place that it stands for
+pub digit_of_pan : (d : ℕ) → d < 3 → pan_digit (pan_of d) ≡ d
+digit_of_pan zero h = refl
+digit_of_pan (suc zero) h = refl
+digit_of_pan (suc (suc zero)) h = refl
+digit_of_pan (suc (suc (suc d))) h = absurd (omega arith)
 
 module _ (n code g : ℕ) (low : code < 2 * n) (w : is_weighing n g ≡ true) where
   pub heavy_down : (pan : Pan) → pan_digit pan ≡ slice_index (digits n 3 g) (code / 2) → code % 2 ≡ 0 → pan_digit pan ≡ weighed n code g

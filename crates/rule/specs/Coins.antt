@@ -19,6 +19,10 @@ pan_digit Aside = 0
 pan_digit Left = 1
 pan_digit Right = 2
 
+-- where a digit puts its coin
+abbrev pub pan_of : ℕ → Pan
+pan_of digit = cond (digit == 1) Left (cond (digit == 2) Right Aside)
+
 -- the pan on the other side
 abbrev pub opposite : Pan → Pan
 opposite Aside = Aside

@@ -2,7 +2,7 @@
 ghost use Rattle.std.specs.Prelude.{◌≡◌, ◌^◌, ◌<◌, ◌≤◌};
 
 use crate::row::Row;
-use fault::{Check, Fault, Place};
+use fault::{Check, Fault};
 
 // How many pegs and colours a game has, and whether a colour may come twice.
 #[derive(Clone, Copy)]
@@ -31,12 +31,12 @@ impl Board {
         ensures { Makes result (board_fits pegs colours repeats) GameParameters
             (λ board. (board.pegs ≡ pegs) × (board.colours ≡ colours) × (board.repeats ≡ repeats)) }
     {
-        if pegs < 1 || pegs > 6 || colours < 2 || colours > 10 {
-            return Err(Check::GameParameters.at(Place::Nowhere));
+        if !(1..=6).contains(&pegs) || !(2..=10).contains(&colours) {
+            return Err(Check::GameParameters.refusal());
         }
         let bound = colours.pow(pegs);
         if bound > 16384 || !repeats && pegs > colours {
-            return Err(Check::GameParameters.at(Place::Nowhere));
+            return Err(Check::GameParameters.refusal());
         }
         Ok(Board {
             pegs: pegs as u8,

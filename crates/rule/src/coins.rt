@@ -8,7 +8,7 @@ ghost use Rattle.rule.specs.Rules.{coins_of};
 
 use crate::interface::AnswerRule;
 use crate::set::Set;
-use fault::{Check, Fault, Place};
+use fault::{Check, Fault};
 
 #[derive(Clone, Copy)]
 pub struct Coins {
@@ -19,8 +19,8 @@ impl Coins {
     pub fn new(coins: u32) -> Result<Coins, Fault>
         ensures { Makes result (coins_fit coins) GameParameters (λ rule. coins_of rule ≡ coin_game coins) }
     {
-        if coins < 2 || coins > 12 {
-            return Err(Check::GameParameters.at(Place::Nowhere));
+        if !(2..=12).contains(&coins) {
+            return Err(Check::GameParameters.refusal());
         }
         Ok(Coins {
             set: Set::new(coins),

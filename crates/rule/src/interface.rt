@@ -31,8 +31,8 @@ pub trait AnswerRule {
     fn is_naming(&self) -> bool
         ensures { result ≡ (meaning self.now).naming };
 
-    // What is said to a guess when this is the code: an answer where the two can be played, and else the first number that
-    // is none. It is that number and no `None`, since a rule of the project fixes that every pair has an answer of this sort.
+    // What is said to a guess when this is the code: an answer where the two can be played, and else the first number past
+    // the answers. It is a number and no `Option`, since docs/RULES.md has it so of every pair.
     fn answer(&self, code: u32, guess: u32) -> u8
         ensures { result ≡ (meaning self.now).answer code guess };
 }

@@ -4,6 +4,7 @@ ghost use Rattle.fault.specs.declared.Check.TheVariants.{GameParameters};
 ghost use Rattle.rule.specs.Making.{Makes};
 ghost use Rattle.rule.specs.Meaning.{Lawful};
 ghost use Rattle.rule.specs.Pegs.{board_fits, row_game};
+ghost use Rattle.rule.specs.Rules.{rows_of};
 
 use crate::board::Board;
 use crate::interface::AnswerRule;
@@ -37,7 +38,7 @@ pub struct RowGame<M> {
 impl<M: Marking> RowGame<M> {
     pub fn new(pegs: u32, colours: u32, repeats: bool) -> Result<RowGame<M>, Fault>
         ensures { Makes result (board_fits pegs colours repeats) GameParameters
-            (λ rule. row_game M.answers M.answer rule.board.pegs rule.board.colours rule.board.repeats ≡ row_game M.answers M.answer pegs colours repeats) }
+            (λ rule. rows_of M.answers M.answer rule ≡ row_game M.answers M.answer pegs colours repeats) }
     {
         Ok(RowGame {
             board: Board::new(pegs, colours, repeats)?,
@@ -49,7 +50,7 @@ impl<M: Marking> RowGame<M> {
 impl<M: Marking> AnswerRule for RowGame<M> {
     ghost use Rattle.rule.specs.Laws.Kept.{rows_lawful};
 
-    ghost meaning = { λ rule. row_game M.answers M.answer rule.board.pegs rule.board.colours rule.board.repeats };
+    ghost meaning = { rows_of M.answers M.answer };
 
     ghost lawful = { λ rule. rows_lawful M.answers M.answer M.lawful rule.board };
 

@@ -1,6 +1,6 @@
 // A set of coins and where a weighing puts them.
 ghost use Rattle.std.specs.Prelude.{◌≡◌, ◌*◌, ◌^◌, ◌<◌, ◌≤◌, true, slice_index};
-ghost use Rattle.rule.specs.Coins.{is_weighing, weighed, pan_digit, opposite};
+ghost use Rattle.rule.specs.Coins.{is_weighing, weighed, pan_digit, pan_of, opposite};
 ghost use Rattle.rule.specs.Digits.{digits};
 
 use crate::row::Row;
@@ -8,12 +8,23 @@ use crate::row::Row;
 // Where a coin lies in a weighing, or which pan goes down.
 #[derive(Clone, Copy)]
 pub enum Pan {
-    Aside,
-    Left,
-    Right,
+    Aside = 0,
+    Left = 1,
+    Right = 2,
 }
 
 impl Pan {
+    // Where a digit of a weighing puts its coin.
+    fn of_digit(digit: u32) -> Pan
+        ensures { result ≡ pan_of digit }
+    {
+        match digit {
+            1 => Pan::Left,
+            2 => Pan::Right,
+            _ => Pan::Aside,
+        }
+    }
+
     // A coin that lies aside has no other pan.
     fn opposite(self) -> Pan
         ensures { result ≡ opposite self }
@@ -30,11 +41,7 @@ impl From<Pan> for u8 {
     ghost from_gives = { λ pan digit. digit ≡ pan_digit pan };
 
     fn from(pan: Pan) -> u8 {
-        match pan {
-            Pan::Aside => 0,
-            Pan::Left => 1,
-            Pan::Right => 2,
-        }
+        pan as u8
     }
 }
 
@@ -81,8 +88,11 @@ impl Set {
         let mut left = 0u32;
         let mut right = 0u32;
         for digit in Row::of(number, 3, self.coins) {
-            left += u32::from(digit == 1);
-            right += u32::from(digit == 2);
+            match Pan::of_digit(digit) {
+                Pan::Left => left += 1,
+                Pan::Right => right += 1,
+                Pan::Aside => {}
+            }
         }
         left == right && left >= 1
     }
@@ -92,11 +102,7 @@ impl Set {
         requires { coin < self.now.coins }
         ensures { pan_digit result ≡ slice_index (digits self.now.coins 3 weighing) coin }
     {
-        match weighing / 3u32.pow(self.coins - 1 - coin) % 3 {
-            0 => Pan::Aside,
-            1 => Pan::Left,
-            _ => Pan::Right,
-        }
+        Pan::of_digit(weighing / 3u32.pow(self.coins - 1 - coin) % 3)
     }
 
     // What the balance shows: a heavy coin presses its own pan down, and a light one the other.

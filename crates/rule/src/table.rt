@@ -7,7 +7,7 @@ ghost use Rattle.rule.specs.Rules.{table_of};
 ghost use Rattle.rule.specs.Table.{all_under, table_fits, table as table_game};
 
 use crate::interface::AnswerRule;
-use fault::{Check, Fault, Place};
+use fault::{Check, Fault};
 
 #[derive(Clone, Copy)]
 pub struct Table<'a> {
@@ -32,7 +32,7 @@ impl<'a> Table<'a> {
         if table.fits() {
             Ok(table)
         } else {
-            Err(Check::TableShape.at(Place::Nowhere))
+            Err(Check::TableShape.refusal())
         }
     }
 
@@ -40,14 +40,11 @@ impl<'a> Table<'a> {
     fn fits(&self) -> bool
         ensures { result ≡ table_fits self.now.rows self.now.codes self.now.answers self.now.bytes.now }
     {
-        self.rows >= 1
-            && self.rows <= 4096
-            && self.codes >= 2
-            && self.codes <= 16384
+        (1..=4096).contains(&self.rows)
+            && (2..=16384).contains(&self.codes)
             && self.rows * self.codes <= 65536
             && self.bytes.len() == (self.rows * self.codes) as usize
-            && self.answers >= 2
-            && self.answers <= 64
+            && (2..=64).contains(&self.answers)
             && all_answers(self.bytes, self.answers)
     }
 }
