@@ -48,7 +48,7 @@ pub(crate) fn check_letter(only: Option<Kind>, letter: u8) -> Result<Kind, FileF
 {
     let kind = Kind::try_from(letter)?;
     match only {
-        Some(taken) if taken != kind => Err(Check::KindOrEdition.at(Place::Nowhere).into()),
+        Some(taken) if taken != kind => Err(Check::KindOrEdition.refusal().into()),
         _ => Ok(kind),
     }
 }
@@ -57,20 +57,20 @@ pub(crate) fn check_lengths(title: &[u8], records: &[u8]) -> Result<(), FileFaul
     ensures { Checks result (Sized title.now records.now) Lengths }
 {
     let count = records.len() / 12;
-    if title.len() <= 40 && records.len() == 12 * count && 1 <= count && count <= 1_048_576 {
+    if title.len() <= 40 && records.len() == 12 * count && (1..=1_048_576).contains(&count) {
         Ok(())
     } else {
-        Err(Check::Lengths.at(Place::Nowhere).into())
+        Err(Check::Lengths.refusal().into())
     }
 }
 
 pub(crate) fn check_title(title: &[u8]) -> Result<(), FileFault>
     ensures { Checks result (Printable title.now) TitleByte }
 {
-    if title.iter().all(|b| 32 <= *b && *b <= 126) {
+    if title.iter().all(|b| (32..=126).contains(b)) {
         Ok(())
     } else {
-        Err(Check::TitleByte.at(Place::Nowhere).into())
+        Err(Check::TitleByte.refusal().into())
     }
 }
 
@@ -78,13 +78,13 @@ pub(crate) fn check_figures(kind: Kind, first: u32, second: u32) -> Result<(), F
     ensures { Checks result (Ranged kind first second) Figure }
 {
     let ranged = match kind {
-        Kind::Tree => 1 <= first && first <= 30 && 1 <= second && second <= 491_520,
+        Kind::Tree => (1..=30).contains(&first) && (1..=491_520).contains(&second),
         Kind::Refutation => first <= 30 && second == 0,
     };
     if ranged {
         Ok(())
     } else {
-        Err(Check::Figure.at(Place::Nowhere).into())
+        Err(Check::Figure.refusal().into())
     }
 }
 
