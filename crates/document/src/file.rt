@@ -10,7 +10,7 @@ use crate::sheet::{Contents, FileFault, Sheet, check_letter, check_title};
 use fault::Check;
 
 // What the last 24 bytes of a file say, right or wrong.
-#[derive(Clone, Copy, PartialEq, Eq, Debug)]
+#[derive(Clone, Copy)]
 pub(crate) struct Trailer {
     // A byte and no `Kind`, since the bytes can say any letter, and which are taken is asked later.
     letter: u8,

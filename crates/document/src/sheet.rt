@@ -33,6 +33,15 @@ pub struct Contents<'a> {
     pub game: u32,
 }
 
+impl<'a> Contents<'a> {
+    // How many records there are.
+    pub fn record_count(self) -> usize
+        ensures { result ≡ length self.entry.records.now / 12 }
+    {
+        self.records.len() / 12
+    }
+}
+
 // What a document says: nothing of it need be right.
 // The letter is any byte, since a wrong one is to be refused here; a narrower type would leave that to callers.
 #[derive(Clone, Copy)]
@@ -53,11 +62,12 @@ pub(crate) fn check_letter(only: Option<Kind>, letter: u8) -> Result<Kind, FileF
     }
 }
 
-pub(crate) fn check_lengths(title: &[u8], records: &[u8]) -> Result<(), FileFault>
-    ensures { Checks result (Sized title.now records.now) Lengths }
+pub(crate) fn check_lengths(contents: Contents<'_>) -> Result<(), FileFault>
+    ensures { Checks result (Sized contents.entry.title.now contents.entry.records.now) Lengths }
 {
-    let count = records.len() / 12;
-    if title.len() <= 40 && records.len() == 12 * count && (1..=1_048_576).contains(&count) {
+    let count = contents.record_count();
+    let whole = contents.records.len() == 12 * count;
+    if contents.title.len() <= 40 && whole && (1..=1_048_576).contains(&count) {
         Ok(())
     } else {
         Err(Check::Lengths.refusal().into())
