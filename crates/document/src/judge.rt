@@ -5,6 +5,7 @@ ghost use Rattle.document.specs.Checks.{paper_of, paper_tests, letter_for};
 ghost use Rattle.document.specs.Documents.{kind_of_document, contents_of, contents_paper, document_paper};
 
 use crate::kind::Kind;
+use crate::row::Records;
 use crate::sheet::{
     Contents, FileFault, Sheet, check_figures, check_lengths, check_letter, check_records,
     check_title,
@@ -67,6 +68,7 @@ pub fn judged<'a>(sheet: Sheet<'a>) -> Result<Document<'a>, FileFault>
     check_lengths(contents)?;
     check_title(contents.title)?;
     check_figures(kind, contents.first, contents.second)?;
-    check_records(kind, contents.records.as_chunks::<12>().0)?;
+    let groups = contents.records.as_chunks::<12>().0;
+    check_records(Records { kind, groups })?;
     Ok(Document::of_kind(kind, contents))
 }

@@ -5,8 +5,8 @@ ghost use Rattle.document.specs.Bytes.{chunk_at};
 ghost use Rattle.document.specs.Forms.{Faulty};
 ghost use Rattle.document.specs.Checks.{kind_of, Taken, Checks, ChecksEach, Sized, Printable, Ranged};
 
-use crate::form::lowest_faulty;
 use crate::kind::Kind;
+use crate::row::Records;
 use fault::{Check, Fault, Place};
 
 // What reading and writing refuse with.
@@ -98,11 +98,11 @@ pub(crate) fn check_figures(kind: Kind, first: u32, second: u32) -> Result<(), F
     }
 }
 
-pub(crate) fn check_records(kind: Kind, records: &[[u8; 12]]) -> Result<(), FileFault>
-    requires { length records.now ≤ 1048576 }
-    ensures { ChecksEach result (Faulty kind (chunk_at records.now) (length records.now)) RecordForm }
+pub(crate) fn check_records(records: Records<'_>) -> Result<(), FileFault>
+    requires { length records.groups.now ≤ 1048576 }
+    ensures { ChecksEach result (Faulty records.entry.kind (chunk_at records.entry.groups.now) (length records.entry.groups.now)) RecordForm }
 {
-    match lowest_faulty(kind, records) {
+    match records.lowest_faulty() {
         None => Ok(()),
         Some(place) => Err(Check::RecordForm.at(Place::Record(place as u32)).into()),
     }

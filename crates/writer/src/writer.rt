@@ -32,7 +32,7 @@ impl<'a> Measured<'a> {
     {
         let contents = self.sheet.contents;
         let [t0, t1] = (contents.title.len() as u16).to_be_bytes();
-        let count = (contents.records.len() / 12) as u32;
+        let count = contents.record_count() as u32;
         [
             [self.sheet.letter, 1, t0, t1],
             count.to_be_bytes(),
