@@ -6,6 +6,7 @@ use writer::rewrite;
 
 // Whether a file is written again as it was read.
 fn is_kept(file: &[u8]) -> Result<bool, Stop> {
+    // The larger of the two small documents fits it whole.
     let mut out = [0u8; 72];
     let bytes = rewrite(file, &mut out)?;
     Ok(&out[..bytes] == file)
