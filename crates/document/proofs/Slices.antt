@@ -29,7 +29,7 @@ module _ (at : ℕ → Record) where
   slice_one low = refl
 
 -- the byte of the kind that a byte stands for
-kind_same : (byte : ℕ) → kind_byte (kind_in byte) ≡ byte
+pub kind_same : (byte : ℕ) → kind_byte (kind_in byte) ≡ byte
 kind_same byte = grind (arith, nat_tests)
 
 pub joined_append : (xs ys : List Record) → flat_map record_bytes (xs ++ ys) ≡ flat_map record_bytes xs ++ flat_map record_bytes ys

@@ -7,10 +7,10 @@ ghost use Rattle.document.specs.Files.{trailer_by, trailer_in, Agreed, paper_in,
 
 use crate::kind::Kind;
 use crate::sheet::{Contents, FileFault, Sheet, check_letter, check_title};
-use fault::{Check, Place};
+use fault::Check;
 
 // What the last 24 bytes of a file say, right or wrong.
-#[derive(Clone, Copy, PartialEq, Eq, Debug)]
+#[derive(Clone, Copy)]
 pub(crate) struct Trailer {
     // A byte and no `Kind`, since the bytes can say any letter, and which are taken is asked later.
     letter: u8,
@@ -55,7 +55,7 @@ fn trailer_of(file: &[u8]) -> Result<Trailer, FileFault>
     let words = file.as_rchunks::<4>().1;
     match words.last_chunk::<6>() {
         Some(last) if 36 <= file.len() => Ok(Trailer::from(*last)),
-        _ => Err(Check::FileTooShort.at(Place::Nowhere).into()),
+        _ => Err(Check::FileTooShort.refusal().into()),
     }
 }
 
@@ -66,7 +66,7 @@ fn check_edition(only: Option<Kind>, trailer: Trailer) -> Result<(), FileFault>
     if trailer.edition == 1 {
         Ok(())
     } else {
-        Err(Check::KindOrEdition.at(Place::Nowhere).into())
+        Err(Check::KindOrEdition.refusal().into())
     }
 }
 
@@ -76,14 +76,13 @@ fn check_agreement(size: usize, trailer: Trailer) -> Result<(), FileFault>
     let count = trailer.count as usize;
     let title = trailer.title as usize;
     if title <= 40
-        && 1 <= count
-        && count <= 1_048_576
+        && (1..=1_048_576).contains(&count)
         && trailer.distance as usize == 12 * count
         && size == title + 12 * count + 24
     {
         Ok(())
     } else {
-        Err(Check::Lengths.at(Place::Nowhere).into())
+        Err(Check::Lengths.refusal().into())
     }
 }
 

@@ -6,7 +6,7 @@ ghost use Rattle.document.specs.Walks.{Least};
 
 use crate::kind::Kind;
 use crate::record::{Record, RecordKind};
-use crate::row::{Misfit, lowest_late};
+use crate::row::{Misfit, Records};
 
 fn is_shaped(kind: Kind, item: Record) -> bool
     ensures { Decides result (Shaped kind item) }
@@ -37,28 +37,30 @@ fn is_plain(kind: Kind, item: Record, count: usize, i: usize) -> bool
     is_shaped(kind, item) && item.gap == 0 && rooted
 }
 
-// The lowest record that is faulty on account of record `i`.
-fn lowest_blamed(kind: Kind, records: &[[u8; 12]], i: usize) -> Option<usize>
-    requires { i < length records.now }
-    ensures { Least (Blames kind (chunk_at records.now) (length records.now) i) result }
-{
-    let item = Record::from(records[i]);
-    let span = item.span as usize;
-    if span > i {
-        return Some(i);
+impl<'a> Records<'a> {
+    // The lowest record that is faulty on account of record `i`.
+    fn lowest_blamed(self, i: usize) -> Option<usize>
+        requires { i < length self.groups.now }
+        ensures { Least (Blames self.entry.kind (chunk_at self.entry.groups.now) (length self.entry.groups.now) i) result }
+    {
+        let item = self.record(i);
+        let span = item.span as usize;
+        if span > i {
+            return Some(i);
+        }
+        match self.lowest_late(i - span, i) {
+            Ok(Some(place)) => Some(place),
+            Ok(None) if is_plain(self.kind, item, self.groups.len(), i) => None,
+            Ok(None) | Err(Misfit) => Some(i),
+        }
     }
-    match lowest_late(kind, records, i - span, i) {
-        Ok(Some(place)) => Some(place),
-        Ok(None) if is_plain(kind, item, records.len(), i) => None,
-        Ok(None) | Err(Misfit) => Some(i),
-    }
-}
 
-// The lowest faulty record of a document.
-pub(crate) fn lowest_faulty(kind: Kind, records: &[[u8; 12]]) -> Option<usize>
-    ensures { Least (Faulty kind (chunk_at records.now) (length records.now)) result }
-{
-    (0..records.len())
-        .filter_map(|i| lowest_blamed(kind, records, i))
-        .min()
+    // The lowest faulty record of a document.
+    pub(crate) fn lowest_faulty(self) -> Option<usize>
+        ensures { Least (Faulty self.entry.kind (chunk_at self.entry.groups.now) (length self.entry.groups.now)) result }
+    {
+        (0..self.groups.len())
+            .filter_map(|i| self.lowest_blamed(i))
+            .min()
+    }
 }

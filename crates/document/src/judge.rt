@@ -5,6 +5,7 @@ ghost use Rattle.document.specs.Checks.{paper_of, paper_tests, letter_for};
 ghost use Rattle.document.specs.Documents.{kind_of_document, contents_of, contents_paper, document_paper};
 
 use crate::kind::Kind;
+use crate::row::Records;
 use crate::sheet::{
     Contents, FileFault, Sheet, check_figures, check_lengths, check_letter, check_records,
     check_title,
@@ -18,6 +19,16 @@ pub enum Document<'a> {
 }
 
 impl<'a> Document<'a> {
+    // A function and no `From`, which would take a pair: two arguments read plainer.
+    fn of_kind(kind: Kind, contents: Contents<'a>) -> Document<'a>
+        ensures { document_paper result ≡ contents_paper (letter_for kind) contents.entry }
+    {
+        match kind {
+            Kind::Tree => Document::Tree(contents),
+            Kind::Refutation => Document::Refutation(contents),
+        }
+    }
+
     pub fn kind(self) -> Kind
         ensures { result ≡ kind_of_document self.entry }
     {
@@ -48,25 +59,16 @@ impl<'a> From<Document<'a>> for Sheet<'a> {
     }
 }
 
-// A function and no `From`, which would take a pair: two arguments read plainer.
-fn document_of<'a>(kind: Kind, contents: Contents<'a>) -> Document<'a>
-    ensures { document_paper result ≡ contents_paper (letter_for kind) contents.entry }
-{
-    match kind {
-        Kind::Tree => Document::Tree(contents),
-        Kind::Refutation => Document::Refutation(contents),
-    }
-}
-
 // The document that a sheet says, or the first check that it does not pass.
 pub fn judged<'a>(sheet: Sheet<'a>) -> Result<Document<'a>, FileFault>
     ensures { MatchResult result (λ d. (document_paper d ≡ paper_of sheet.entry) × Passed (paper_tests (paper_of sheet.entry))) (λ f. Refused (paper_tests (paper_of sheet.entry)) f.fault) }
 {
     let contents = sheet.contents;
     let kind = check_letter(None, sheet.letter)?;
-    check_lengths(contents.title, contents.records)?;
+    check_lengths(contents)?;
     check_title(contents.title)?;
     check_figures(kind, contents.first, contents.second)?;
-    check_records(kind, contents.records.as_chunks::<12>().0)?;
-    Ok(document_of(kind, contents))
+    let groups = contents.records.as_chunks::<12>().0;
+    check_records(Records { kind, groups })?;
+    Ok(Document::of_kind(kind, contents))
 }

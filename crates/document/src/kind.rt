@@ -3,7 +3,7 @@ ghost use Rattle.std.specs.Prelude.{◌≡◌, Some};
 ghost use Rattle.document.specs.Checks.{letter_for, kind_text, Spelled};
 
 use crate::sheet::FileFault;
-use fault::{Check, Place};
+use fault::Check;
 use std::fmt;
 
 // What a document is: a tree of guesses, or a refutation.
@@ -33,7 +33,7 @@ impl TryFrom<u8> for Kind {
         match letter {
             b'T' => Ok(Kind::Tree),
             b'R' => Ok(Kind::Refutation),
-            _ => Err(Check::KindOrEdition.at(Place::Nowhere).into()),
+            _ => Err(Check::KindOrEdition.refusal().into()),
         }
     }
 }

@@ -1,11 +1,12 @@
 // The records of a document.
-ghost use Rattle.std.specs.Prelude.{◌≡◌, ◌/◌, ◌<◌, ◌≤◌, length, MatchOption};
+ghost use Rattle.std.specs.Prelude.{◌≡◌, ◌*◌, ◌/◌, ◌<◌, ◌≤◌, length, slice_index, IfSome, MatchOption};
 ghost use Rattle.document.specs.Bytes.{kind_in, kind_byte, record_at, record_bytes};
 ghost use Rattle.document.specs.Forms.{key};
 
 use crate::kind::Kind;
 
-// What a record is: a tree has leaves and guesses, a refutation counts and splits. Any other byte is kept.
+// What a record is: a tree has leaves and guesses, a refutation counts and splits.
+// Any other byte is kept: 0 to 3 are never read as `Other`.
 #[derive(Clone, Copy, PartialEq, Eq, Debug)]
 pub enum RecordKind {
     Leaf,
@@ -16,7 +17,7 @@ pub enum RecordKind {
 }
 
 impl From<u8> for RecordKind {
-    ghost from_gives = { λ byte kind. kind ≡ kind_in byte };
+    ghost from_gives = { λ byte kind. (kind ≡ kind_in byte) × (kind_byte kind ≡ byte) };
 
     fn from(byte: u8) -> RecordKind {
         match byte {
@@ -104,7 +105,8 @@ pub(crate) fn key_of(kind: Kind, item: Record) -> u32
 
 // Record `i` of the records of a document, if there is one.
 pub fn record_in(records: &[u8], i: usize) -> Option<Record>
-    ensures { MatchOption result (length records.now / 12 ≤ i) (λ e. (i < length records.now / 12) × (e ≡ record_at records.now i)) }
+    ensures value { MatchOption result (length records.now / 12 ≤ i) (λ e. (i < length records.now / 12) × (e ≡ record_at records.now i)) }
+    ensures byte { IfSome result (λ e. kind_byte e.kind ≡ slice_index records.now (12 * i)) }
 {
     let bytes = records.as_chunks::<12>().0.get(i)?;
     Some(Record::from(*bytes))

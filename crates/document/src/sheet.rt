@@ -5,8 +5,8 @@ ghost use Rattle.document.specs.Bytes.{chunk_at};
 ghost use Rattle.document.specs.Forms.{Faulty};
 ghost use Rattle.document.specs.Checks.{kind_of, Taken, Checks, ChecksEach, Sized, Printable, Ranged};
 
-use crate::form::lowest_faulty;
 use crate::kind::Kind;
+use crate::row::Records;
 use fault::{Check, Fault, Place};
 
 // What reading and writing refuse with.
@@ -33,6 +33,15 @@ pub struct Contents<'a> {
     pub game: u32,
 }
 
+impl<'a> Contents<'a> {
+    // How many records there are.
+    pub fn record_count(self) -> usize
+        ensures { result ≡ length self.entry.records.now / 12 }
+    {
+        self.records.len() / 12
+    }
+}
+
 // What a document says: nothing of it need be right.
 // The letter is any byte, since a wrong one is to be refused here; a narrower type would leave that to callers.
 #[derive(Clone, Copy)]
@@ -48,29 +57,30 @@ pub(crate) fn check_letter(only: Option<Kind>, letter: u8) -> Result<Kind, FileF
 {
     let kind = Kind::try_from(letter)?;
     match only {
-        Some(taken) if taken != kind => Err(Check::KindOrEdition.at(Place::Nowhere).into()),
+        Some(taken) if taken != kind => Err(Check::KindOrEdition.refusal().into()),
         _ => Ok(kind),
     }
 }
 
-pub(crate) fn check_lengths(title: &[u8], records: &[u8]) -> Result<(), FileFault>
-    ensures { Checks result (Sized title.now records.now) Lengths }
+pub(crate) fn check_lengths(contents: Contents<'_>) -> Result<(), FileFault>
+    ensures { Checks result (Sized contents.entry.title.now contents.entry.records.now) Lengths }
 {
-    let count = records.len() / 12;
-    if title.len() <= 40 && records.len() == 12 * count && 1 <= count && count <= 1_048_576 {
+    let count = contents.record_count();
+    let whole = contents.records.len() == 12 * count;
+    if contents.title.len() <= 40 && whole && (1..=1_048_576).contains(&count) {
         Ok(())
     } else {
-        Err(Check::Lengths.at(Place::Nowhere).into())
+        Err(Check::Lengths.refusal().into())
     }
 }
 
 pub(crate) fn check_title(title: &[u8]) -> Result<(), FileFault>
     ensures { Checks result (Printable title.now) TitleByte }
 {
-    if title.iter().all(|b| 32 <= *b && *b <= 126) {
+    if title.iter().all(|b| (32..=126).contains(b)) {
         Ok(())
     } else {
-        Err(Check::TitleByte.at(Place::Nowhere).into())
+        Err(Check::TitleByte.refusal().into())
     }
 }
 
@@ -78,21 +88,21 @@ pub(crate) fn check_figures(kind: Kind, first: u32, second: u32) -> Result<(), F
     ensures { Checks result (Ranged kind first second) Figure }
 {
     let ranged = match kind {
-        Kind::Tree => 1 <= first && first <= 30 && 1 <= second && second <= 491_520,
+        Kind::Tree => (1..=30).contains(&first) && (1..=491_520).contains(&second),
         Kind::Refutation => first <= 30 && second == 0,
     };
     if ranged {
         Ok(())
     } else {
-        Err(Check::Figure.at(Place::Nowhere).into())
+        Err(Check::Figure.refusal().into())
     }
 }
 
-pub(crate) fn check_records(kind: Kind, records: &[[u8; 12]]) -> Result<(), FileFault>
-    requires { length records.now ≤ 1048576 }
-    ensures { ChecksEach result (Faulty kind (chunk_at records.now) (length records.now)) RecordForm }
+pub(crate) fn check_records(records: Records<'_>) -> Result<(), FileFault>
+    requires { length records.groups.now ≤ 1048576 }
+    ensures { ChecksEach result (Faulty records.entry.kind (chunk_at records.entry.groups.now) (length records.entry.groups.now)) RecordForm }
 {
-    match lowest_faulty(kind, records) {
+    match records.lowest_faulty() {
         None => Ok(()),
         Some(place) => Err(Check::RecordForm.at(Place::Record(place as u32)).into()),
     }

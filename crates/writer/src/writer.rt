@@ -7,7 +7,7 @@ ghost use Rattle.document.specs.Checks.{paper_of, Sized};
 ghost use Rattle.writer.specs.Writing.{write_tests, Writes};
 
 use document::{FileFault, Sheet, judged};
-use fault::{Check, Place};
+use fault::Check;
 
 // A sheet whose lengths are in order, so that its document has a size and a trailer.
 #[derive(Clone, Copy)]
@@ -32,7 +32,7 @@ impl<'a> Measured<'a> {
     {
         let contents = self.sheet.contents;
         let [t0, t1] = (contents.title.len() as u16).to_be_bytes();
-        let count = (contents.records.len() / 12) as u32;
+        let count = contents.record_count() as u32;
         [
             [self.sheet.letter, 1, t0, t1],
             count.to_be_bytes(),
@@ -77,7 +77,7 @@ pub fn write(sheet: Sheet<'_>, out: &mut [u8]) -> Result<usize, FileFault>
     let measured = Measured { sheet };
     let bytes = measured.size();
     if out.len() < bytes {
-        return Err(Check::OutputTooShort.at(Place::Nowhere).into());
+        return Err(Check::OutputTooShort.refusal().into());
     }
     measured.put(out);
     Ok(bytes)

@@ -22,7 +22,7 @@ pub returns : goal.returns
 returns c =
     let bs = c.args.sheet.contents.records.now in
     let sized = c.in_ok-check_lengths.ensures in (
-      c.document_of.ensures ∙ ap (λ l. contents_paper l c.args.sheet.contents)
+      c.of_kind.ensures ∙ ap (λ l. contents_paper l c.args.sheet.contents)
           (ap letter_for c.in_ok-kind.ensures.kind ∙ same_letter c.args.sheet.letter c.in_ok-kind.ensures.taken),
       all_passed (paper_of c.args.sheet) _ _ _ c.in_ok-kind.ensures.kind
           (ap chunk_at c.as_chunks.ensures.front ∙ chunk_records bs (length bs / 12) sized.even) c.as_chunks.ensures.front_len

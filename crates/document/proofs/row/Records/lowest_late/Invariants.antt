@@ -3,13 +3,13 @@ use Rattle.document.specs.declared.row.Misfit.{Misfit}
 use Rattle.document.specs.Bytes.{chunk_at}
 use Rattle.document.specs.Walks.{Tells}
 use Rattle.document.proofs.Rows.{over}
-use Rattle.document.proofs.row.lowest_late.Given as goal
+use Rattle.document.proofs.row.Records.lowest_late.Given as goal
 
 -- whatever the records up to the end tell, with what was found so far they tell it of all up to i
 abbrev pub invariant-loop-end : goal.invariant-loop-end
 invariant-loop-end l =
     (l.low ≤ l.end) × (l.end ≤ l.i)
-    × ((r : Result (Option ℕ) Misfit) → Tells l.kind (chunk_at l.records) l.low l.end r → Tells l.kind (chunk_at l.records) l.low l.i (over l.found r))
+    × ((r : Result (Option ℕ) Misfit) → Tells l.self.kind (chunk_at l.self.groups.now) l.low l.end r → Tells l.self.kind (chunk_at l.self.groups.now) l.low l.i (over l.found r))
 
 abbrev pub decreases-loop-end : goal.decreases-loop-end
 decreases-loop-end l = l.end

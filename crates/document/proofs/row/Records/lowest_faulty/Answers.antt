@@ -5,13 +5,13 @@ use Rattle.std.proofs.lemmas.Iterator.{YieldsList-from_range}
 use Rattle.std.proofs.lemmas.Iterator.Consumers.{YieldsList-from_filter_map, min_from_yields_List}
 use Rattle.document.specs.Bytes.{chunk_at}
 use Rattle.document.proofs.Lowest.{least_same, blamed, lowest}
-use Rattle.document.proofs.form.lowest_faulty.Goals as goal
+use Rattle.document.proofs.row.Records.lowest_faulty.Goals as goal
 
 pub returns : goal.returns
 returns c =
-    let at = chunk_at c.args.records.now in
-    let n = length c.args.records.now in
-    lowest c.args.kind at n _
+    let at = chunk_at c.args.self.groups.now in
+    let n = length c.args.self.groups.now in
+    lowest c.args.self.kind at n _
     (sym (option_map_id _) ∙ min_from_yields_List _ _ c.min.ensures.ran
-    (YieldsList-from_filter_map _ (λ i. (blamed c.args.kind at n i).0) (YieldsList-from_range 0 n n c.filter_map.ensures.source (omega arith))
-    c.filter_map.ensures.closure (λ x r q k. (search rules, least_same (Blames c.args.kind at n x) r (blamed c.args.kind at n x).0 (search rules) (blamed c.args.kind at n x).1))))
+    (YieldsList-from_filter_map _ (λ i. (blamed c.args.self.kind at n i).0) (YieldsList-from_range 0 n n c.filter_map.ensures.source (omega arith))
+    c.filter_map.ensures.closure (λ x r q k. (search rules, least_same (Blames c.args.self.kind at n x) r (blamed c.args.self.kind at n x).0 (search rules) (blamed c.args.self.kind at n x).1))))
