@@ -39,6 +39,7 @@ fn groups(heap: Global, count: u32) -> Result<Vec<u8>, AllocError> {
 
 fn read_often(file: &[u8], rounds: u32) -> u64 {
     let mut games = 0u64;
+    // A `for` over the rounds: no index is counted.
     for _ in 0..rounds {
         if let Ok(document) = read(file) {
             games = games.saturating_add(u64::from(document.contents().game));
@@ -49,6 +50,7 @@ fn read_often(file: &[u8], rounds: u32) -> u64 {
 
 fn write_often(sheet: Sheet<'_>, out: &mut [u8], rounds: u32) -> usize {
     let mut bytes = 0usize;
+    // As above, no index is counted.
     for _ in 0..rounds {
         if let Ok(more) = write(sheet, out) {
             bytes = bytes.saturating_add(more);

@@ -5,7 +5,7 @@ fn show_document(rt: &impl Print, document: Document<'_>) -> anyhow::Result<()> 
     let kind = document.kind();
     let contents = document.contents();
     let title = contents.title.len();
-    let records = contents.records.len() / 12;
+    let records = contents.record_count();
     let first = contents.first;
     let second = contents.second;
     let game = contents.game;

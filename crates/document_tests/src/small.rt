@@ -1,6 +1,6 @@
 // The two small documents, whole, with each byte changed, and cut short.
 use crate::lines::{show_fault, show_read};
-use document::{read_refutation, read_tree};
+use document::{FileFault, Kind, read_refutation, read_tree};
 use samples::{REFUTATION, TREE};
 use title::title_to_show;
 use writer::rewrite;
@@ -26,16 +26,21 @@ fn show_again(rt: &HostRuntime, file: &[u8], room: usize) -> anyhow::Result<()> 
     Ok(())
 }
 
-fn show_letters(rt: &HostRuntime, file: &[u8]) -> anyhow::Result<()> {
-    match read_tree(file) {
-        Ok(_) => println!(rt; "as a tree: taken")?,
-        Err(refused) => show_fault(rt, refused)?,
-    }
-    match read_refutation(file) {
-        Ok(_) => println!(rt; "as a refutation: taken")?,
+fn show_taken<T: Drop>(
+    rt: &HostRuntime,
+    kind: Kind,
+    read: Result<T, FileFault>,
+) -> anyhow::Result<()> {
+    match read {
+        Ok(_) => println!(rt; "as a {kind}: taken")?,
         Err(refused) => show_fault(rt, refused)?,
     }
     Ok(())
+}
+
+fn show_letters(rt: &HostRuntime, file: &[u8]) -> anyhow::Result<()> {
+    show_taken(rt, Kind::Tree, read_tree(file))?;
+    show_taken(rt, Kind::Refutation, read_refutation(file))
 }
 
 fn show_title(rt: &HostRuntime, house: &[u8], supplier: &[u8]) -> anyhow::Result<()> {

@@ -61,12 +61,39 @@ impl fmt::Display for Falseness {
     }
 }
 
-// The code that says which coin, counted from 1, is false and how.
-fn code_of(coin: u32, how: Falseness) -> u32 {
-    let heavy = coin.saturating_sub(1).saturating_mul(2);
-    match how {
-        Falseness::Heavy => heavy,
-        Falseness::Light => heavy.saturating_add(1),
+// Which coin, counted from 1, is false and how.
+#[derive(Clone, Copy)]
+struct FalseCoin {
+    coin: u32,
+    how: Falseness,
+}
+
+impl FalseCoin {
+    fn heavy(coin: u32) -> FalseCoin {
+        let how = Falseness::Heavy;
+        FalseCoin { coin, how }
+    }
+
+    fn light(coin: u32) -> FalseCoin {
+        let how = Falseness::Light;
+        FalseCoin { coin, how }
+    }
+
+    // The code that says this.
+    fn code(self) -> u32 {
+        let heavy = self.coin.saturating_sub(1).saturating_mul(2);
+        match self.how {
+            Falseness::Heavy => heavy,
+            Falseness::Light => heavy.saturating_add(1),
+        }
+    }
+}
+
+impl fmt::Display for FalseCoin {
+    fn fmt<W: fmt::Write>(&self, f: &mut fmt::Formatter<W>) -> fmt::Result {
+        let coin = self.coin;
+        let how = self.how;
+        write!(f, "coin {coin} {how}")
     }
 }
 
@@ -80,12 +107,10 @@ enum Pan {
 impl Pan {
     // What the coins on this pan add to the number of a weighing.
     fn number(self, coins: u32, on: &[u32]) -> u32 {
-        let mut number = 0u32;
-        for coin in on {
-            let power = 3u32.saturating_pow(coins.saturating_sub(*coin));
-            number = number.saturating_add(power.saturating_mul(self as u32));
-        }
-        number
+        on.iter()
+            .map(|coin| 3u32.saturating_pow(coins.saturating_sub(*coin)))
+            .map(|power| power.saturating_mul(self as u32))
+            .fold(0, u32::saturating_add)
     }
 }
 
@@ -107,28 +132,27 @@ fn score(
     report: &mut Report<'_>,
     left: u32,
     right: u32,
-    coin: u32,
-    how: Falseness,
+    coin: FalseCoin,
     printed: Outcome,
 ) -> Result<(), Stop> {
     let rule = Coins::new(4)?;
-    let computed = rule.answer(code_of(coin, how), weighing(4, &[left], &[right]));
+    let computed = rule.answer(coin.code(), weighing(4, &[left], &[right]));
     let expected = u8::from(printed);
     let verdict = report.tally.count(expected == computed);
     println!(report.rt;
-        "  {left} against {right}, coin {coin} {how}: printed {printed}, answer {expected}; computed answer {computed}: {verdict}"
+        "  {left} against {right}, {coin}: printed {printed}, answer {expected}; computed answer {computed}: {verdict}"
     )?;
     Ok(())
 }
 
 fn one_against_one(report: &mut Report<'_>) -> Result<(), Stop> {
     println!(report.rt; " Klimos's example of a strategy for 4 coins")?;
-    score(report, 1, 2, 3, Falseness::Heavy, Outcome::Level)?;
-    score(report, 1, 4, 3, Falseness::Heavy, Outcome::Level)?;
-    score(report, 3, 4, 3, Falseness::Heavy, Outcome::LeftHeavier)?;
+    score(report, 1, 2, FalseCoin::heavy(3), Outcome::Level)?;
+    score(report, 1, 4, FalseCoin::heavy(3), Outcome::Level)?;
+    score(report, 3, 4, FalseCoin::heavy(3), Outcome::LeftHeavier)?;
     println!(report.rt; " The COBRA framework's outcome for a lighter left pan")?;
-    score(report, 4, 3, 4, Falseness::Light, Outcome::RightHeavier)?;
-    score(report, 4, 3, 3, Falseness::Heavy, Outcome::RightHeavier)
+    score(report, 4, 3, FalseCoin::light(4), Outcome::RightHeavier)?;
+    score(report, 4, 3, FalseCoin::heavy(3), Outcome::RightHeavier)
 }
 
 // The three weighings of Dyson's scheme for twelve coins.
@@ -172,8 +196,8 @@ fn dyson(report: &mut Report<'_>) -> Result<(), Stop> {
         (11, "120", "102"),
         (12, "112", "110"),
     ] {
-        label(report, &scheme, coin, Falseness::Heavy, heavy)?;
-        label(report, &scheme, coin, Falseness::Light, light)?;
+        label(report, &scheme, FalseCoin::heavy(coin), heavy)?;
+        label(report, &scheme, FalseCoin::light(coin), light)?;
     }
     Ok(())
 }
@@ -181,13 +205,12 @@ fn dyson(report: &mut Report<'_>) -> Result<(), Stop> {
 fn label(
     report: &mut Report<'_>,
     scheme: &Scheme,
-    coin: u32,
-    how: Falseness,
+    coin: FalseCoin,
     printed: &str,
 ) -> Result<(), Stop> {
-    let answers = scheme.answers(code_of(coin, how));
+    let answers = scheme.answers(coin.code());
     let before = report.tally;
-    print!(report.rt; "  coin {coin} {how}: printed {printed}; computed answers")?;
+    print!(report.rt; "  {coin}: printed {printed}; computed answers")?;
     for (sign, computed) in printed.bytes().zip(answers) {
         let expected = Outcome::of_sign(sign).map(u8::from);
         let _ = report.tally.count(expected == Some(computed));

@@ -6,6 +6,7 @@ use writer::rewrite;
 
 // Whether a file is written again as it was read.
 fn is_kept(file: &[u8]) -> Result<bool, Stop> {
+    // The larger of the two small documents fits it whole.
     let mut out = [0u8; 72];
     let bytes = rewrite(file, &mut out)?;
     Ok(&out[..bytes] == file)
@@ -14,7 +15,7 @@ fn is_kept(file: &[u8]) -> Result<bool, Stop> {
 // A document whose records and figures are known.
 fn score(report: &mut Report<'_>, name: &str, file: &[u8], known: [u32; 3]) -> Result<(), Stop> {
     let contents = read(file)?.contents();
-    let records = u32::try_from(contents.records.len() / 12).unwrap_or(u32::MAX);
+    let records = u32::try_from(contents.record_count()).unwrap_or(u32::MAX);
     let read = [records, contents.first, contents.second];
     report.compare_rows(name, &known, &read)?;
     let verdict = report.tally.count(is_kept(file)?);

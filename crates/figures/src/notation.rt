@@ -24,12 +24,11 @@ impl PegGame {
 
     // The number that a printed row stands for. Text that is no row of the game gives a number that is not one either.
     pub(crate) fn number(&self, row: &str) -> u32 {
-        let mut number = 0u32;
-        for sign in row.bytes() {
-            let colour = u32::from(sign.wrapping_sub(self.first));
-            number = number.saturating_mul(self.colours).saturating_add(colour);
-        }
-        number
+        row.bytes()
+            .map(|sign| u32::from(sign.wrapping_sub(self.first)))
+            .fold(0, |number: u32, colour| {
+                number.saturating_mul(self.colours).saturating_add(colour)
+            })
     }
 
     pub(crate) fn answer(&self, code: &str, guess: &str) -> u8 {

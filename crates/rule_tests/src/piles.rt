@@ -28,6 +28,7 @@ fn hints_are_refused(rt: HostRuntime) -> Result<(), Fail> {
     let mut game = Hints::new(Pegs::new(4, 6, true)?);
     assert_eq!(rt; refusal(game.hint(1296, 0)), Some(20));
     assert_eq!(rt; refusal(game.hint(0, 14)), Some(20));
+    // eight guesses, each used as the number it is
     for guess in 0..8 {
         game.hint(guess, 0)?;
     }

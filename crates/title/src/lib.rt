@@ -23,7 +23,8 @@ impl fmt::Display for Source {
     }
 }
 
-// A title, whose it is, and where it stands in that one's line.
+// A title, whose it is, and where it stands in that one's line. The two places are kept as numbers, since callers print
+// both.
 #[derive(Clone, Copy)]
 pub struct Shown<'a> {
     pub title: &'a [u8],
