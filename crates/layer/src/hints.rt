@@ -42,7 +42,7 @@ impl<R: AnswerRule> Hints<R> {
     fn agrees(&self, code: u32) -> bool
         ensures { result ≡ agrees (R.meaning self.now.below) code self.now.notes }
     {
-        // Kept in this form (docs/DECISIONS.md): each entry is read by a function of the table, then the rule below is asked.
+        // Kept in this form (docs/DECISIONS.md): what was told comes from the table, what a code would answer from below.
         for at in 0..PLACES {
             let Some(hint) = self.notes.entry(at) else {
                 return true;
