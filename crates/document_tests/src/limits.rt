@@ -60,7 +60,7 @@ fn show_file(rt: &HostRuntime, count: u32) -> anyhow::Result<()> {
     show_read(rt, file.as_slice())
 }
 
-pub fn report(rt: &HostRuntime) -> anyhow::Result<()> {
+pub(crate) fn report(rt: &HostRuntime) -> anyhow::Result<()> {
     show_changes(rt)?;
     let guesses = chain(rt.alloc(), 1_000_000)?;
     let deep = Contents {

@@ -15,7 +15,7 @@ fn show_document(rt: &impl Print, document: Document<'_>) -> anyhow::Result<()> 
     Ok(())
 }
 
-pub fn show_fault(rt: &impl Print, refused: FileFault) -> anyhow::Result<()> {
+pub(crate) fn show_fault(rt: &impl Print, refused: FileFault) -> anyhow::Result<()> {
     let number = refused.fault.number;
     let stage = refused.fault.stage;
     let place = refused.fault.place;
@@ -23,7 +23,7 @@ pub fn show_fault(rt: &impl Print, refused: FileFault) -> anyhow::Result<()> {
     Ok(())
 }
 
-pub fn show_read(rt: &impl Print, file: &[u8]) -> anyhow::Result<()> {
+pub(crate) fn show_read(rt: &impl Print, file: &[u8]) -> anyhow::Result<()> {
     match read(file) {
         Ok(document) => show_document(rt, document),
         Err(refused) => show_fault(rt, refused),

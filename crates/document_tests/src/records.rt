@@ -5,7 +5,7 @@ use std::alloc::{AllocError, Global};
 use std::iter;
 
 // Guesses one beneath the other, with a leaf at the bottom.
-pub fn chain(heap: Global, count: u32) -> Result<Vec<u8>, AllocError> {
+pub(crate) fn chain(heap: Global, count: u32) -> Result<Vec<u8>, AllocError> {
     let guesses = (1..count).map(|span| Record {
         kind: RecordKind::Guess,
         span,
@@ -18,7 +18,7 @@ pub fn chain(heap: Global, count: u32) -> Result<Vec<u8>, AllocError> {
 }
 
 // One split with all the other records directly beneath it.
-pub fn row(heap: Global, count: u32) -> Result<Vec<u8>, AllocError> {
+pub(crate) fn row(heap: Global, count: u32) -> Result<Vec<u8>, AllocError> {
     let counts = (1..count).map(|value| Record {
         kind: RecordKind::Count,
         value,
@@ -36,7 +36,7 @@ pub fn row(heap: Global, count: u32) -> Result<Vec<u8>, AllocError> {
 }
 
 // A refutation's trailer without a title, for game 7.
-pub fn put_trailer(file: &mut Vec<u8>, count: u32) -> Result<(), AllocError> {
+pub(crate) fn put_trailer(file: &mut Vec<u8>, count: u32) -> Result<(), AllocError> {
     file.extend_from_slice(b"R\x01\x00\x00")?;
     file.extend_from_slice(&count.to_be_bytes())?;
     file.extend_from_slice(b"\x00\x00\x00\x01\x00\x00\x00\x00")?;

@@ -62,7 +62,7 @@ fn show_all(rt: &HostRuntime, file: &[u8]) -> anyhow::Result<()> {
     show_broken(rt, file, 128)
 }
 
-pub fn report(rt: &HostRuntime) -> anyhow::Result<()> {
+pub(crate) fn report(rt: &HostRuntime) -> anyhow::Result<()> {
     show_all(rt, TREE)?;
     show_all(rt, REFUTATION)?;
     show_read(rt, b"too short")?;
