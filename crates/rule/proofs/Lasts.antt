@@ -1,11 +1,12 @@
 -- What the digits of a number tell, taken from the last to the first. Assumes nothing.
-use Rattle.std.proofs.Common.{◌≡◌, ℕ, zero, suc, ◌+◌, ◌-◌, ◌/◌, ◌%◌, ◌^◌, ◌<◌, ◌≤◌, min, ◌==◌, Bool, true, false, cond, List, [], ◌∷◌, ◌++◌, length, replicate, slice_index, nat_le, sym, refl, ap, subst, ◌∙◌, ⊎_elim, arith, div-one}
+use Rattle.std.proofs.Common.{◌≡◌, ℕ, zero, suc, ◌+◌, ◌-◌, ◌/◌, ◌%◌, ◌^◌, ◌<◌, ◌≤◌, min, ◌==◌, Bool, true, false, ◌&&◌, cond, List, [], ◌∷◌, ◌++◌, length, replicate, slice_index, slice_set, nat_le, sym, refl, ap, subst, ◌∙◌, ⊎_elim, arith, div-one, length-set}
 use Rattle.std.proofs.Math.Nat.{pow-zero, pow-succ', div-div-eq-div-mul}
 use Rattle.std.proofs.lemmas.Nat.{mod_below}
 use Rattle.std.proofs.lemmas.List.Sums.{sum_by-cons}
-use Rattle.std.proofs.lemmas.List.{get_or-replicate, get_or_default}
+use Rattle.std.proofs.lemmas.List.{get_or-replicate, get_or_default, get_or-set_same, get_or-set_other}
 use Rattle.std.proofs.lemmas.List.Sums.{AllPass-from_list_all, list_all-from_AllPass}
-use Rattle.std.proofs.lemmas.Bool.{and_parts, and_from, both_ways, cases_Bool, cases_eq, eqb-true, eq-eqb, leb-true, le-leb}
+use Rattle.std.proofs.lemmas.Bool.{and_parts, and_from, both_ways, cases_Bool, cases_eq, eqb-true, eq-eqb, ne_eqb, leb-true, le-leb}
+use Rattle.std.specs.Int.{from_bool}
 use Rattle.std.specs.List.{zip, count_by, sum_by, list_all}
 use Rattle.rule.specs.Digits.{digits, last_digits, tally, occurs, different, total}
 use Rattle.rule.specs.Pegs.{equal_places, shared}
@@ -52,14 +53,34 @@ tally_is : (b : Bool) → cond b 1 0 ≡ tally b
 tally_is true = refl
 tally_is false = refl
 
+-- a test as a number
+pub byte_tally : (b : Bool) → from_bool b ≡ tally b
+byte_tally true = refl
+byte_tally false = refl
+
+-- the next places of two rows are told by one comparison
+pub equal_next : {xs ys us vs : List ℕ} {x y : ℕ} → xs ≡ x ∷ us → ys ≡ y ∷ vs → equal_places xs ys ≡ from_bool (x == y) + equal_places us vs
+equal_next {us = us} {vs = vs} {x = x} {y = y} first second =
+    (λ i. equal_places (first i) (second i)) ∙ ap (λ k. k + equal_places us vs) (sym (byte_tally (x == y)))
+
+-- the places where two lists beside one another agree
+equal_zip : (xs ys : List ℕ) → count_by (λ both. both.0 == both.1) (zip xs ys) ≡ equal_places xs ys
+equal_zip [] ys = refl
+equal_zip (x ∷ xs) [] = refl
+equal_zip (x ∷ xs) (y ∷ ys) =
+    sum_by-cons (λ both. cond (both.0 == both.1) 1 0) (x, y) (zip xs ys)
+    ∙ (λ i. tally_is (x == y) i + equal_zip xs ys i)
+
 -- two rows agree at as many places when they are read from their ends
-pub equal_last : (p b m n : ℕ) → count_by (λ both. both.0 == both.1) (zip (last_digits p b m) (last_digits p b n)) ≡ equal_places (digits p b m) (digits p b n)
-equal_last zero b m n = refl
-equal_last (suc p) b m n =
-    sum_by-cons (λ both. cond (both.0 == both.1) 1 0) (m % b, n % b) (zip (last_digits p b (m / b)) (last_digits p b (n / b)))
-    ∙ (λ i. tally_is (m % b == n % b) i + equal_last p b (m / b) (n / b) i)
+pub equal_ends : (p b m n : ℕ) → equal_places (last_digits p b m) (last_digits p b n) ≡ equal_places (digits p b m) (digits p b n)
+equal_ends zero b m n = refl
+equal_ends (suc p) b m n =
+    ap (λ k. tally (m % b == n % b) + k) (equal_ends p b (m / b) (n / b))
     ∙ sym ((λ i. equal_places (digits_last p b m i) (digits_last p b n i))
     ∙ equal_end (digits p b (m / b)) (digits p b (n / b)) (m % b) (n % b) (length_digits p b (m / b) ∙ sym (length_digits p b (n / b))))
+
+pub equal_last : (p b m n : ℕ) → count_by (λ both. both.0 == both.1) (zip (last_digits p b m) (last_digits p b n)) ≡ equal_places (digits p b m) (digits p b n)
+equal_last p b m n = equal_zip (last_digits p b m) (last_digits p b n) ∙ equal_ends p b m n
 
 -- how often each digit has come, while the digits `left` are still to come
 pub record Tallied (counts left : List ℕ) (all : ℕ → ℕ) : Type 0 where
@@ -77,6 +98,26 @@ tallied_start p b n some few = record {
 -- where the digits still to come are told otherwise
 pub tallied_as : {counts left now : List ℕ} {all : ℕ → ℕ} → left ≡ now → Tallied counts left all → Tallied counts now all
 tallied_as {counts = counts} {all = all} is before = subst (λ l. Tallied counts l all) is before
+
+-- once the next digit is counted
+pub tallied_more : {counts left : List ℕ} {all : ℕ → ℕ} (x : ℕ) → Tallied counts (x ∷ left) all → Tallied (slice_set counts x (slice_index counts x + 1)) left all
+tallied_more {counts = counts} {left = left} {all = all} x before = record {
+  ten = length-set counts x (slice_index counts x + 1) ∙ before.ten;
+  below = before.below.1;
+  each = λ k h.
+      ⊎_elim
+      (λ here.
+      let got : slice_index (slice_set counts x (slice_index counts x + 1)) k ≡ slice_index counts k + 1 =
+      subst (λ z. slice_index (slice_set counts x (slice_index counts x + 1)) z ≡ slice_index counts z + 1) (sym here) (get_or-set_same counts x (slice_index counts x + 1) 0 (omega (arith, before.ten, before.below.0))) in
+      omega (arith, got, before.each k h, tally_same x k (sym here)))
+      (λ other. omega (arith, get_or-set_other counts x k (slice_index counts x + 1) 0 other, before.each k h, tally_other x k (λ e. other (sym e))))
+      (cases_eq k x);
+}
+
+-- once no digit is left
+pub tallied_whole : {counts left : List ℕ} {all : ℕ → ℕ} → Tallied counts left all → length left ≡ 0 → (k : ℕ) → k < 10 → slice_index counts k ≡ all k
+tallied_whole {left = []} done none k h = omega (arith, done.each k h)
+tallied_whole {left = x ∷ xs} done none k h = absurd (omega arith)
 
 pub occurs_le : (k : ℕ) (xs : List ℕ) → occurs k xs ≤ length xs
 occurs_le k [] = omega arith
@@ -103,9 +144,37 @@ different_once (x ∷ xs) below once =
     (eq-eqb _ _ (let none : occurs x xs ≡ 0 = omega (arith, once x below.0, tally_same x x refl) in none))
     (different_once xs below.1 (λ k h. omega (arith, once k h)))
 
+-- no count above one
+abbrev pub all_once : List ℕ → Bool
+all_once counts = list_all (λ count. nat_le count 1) counts
+
+and_false : (b : Bool) → (b && false) ≡ false
+and_false true = refl
+and_false false = refl
+
+and_true : (b : Bool) → (b && true) ≡ b
+and_true true = refl
+and_true false = refl
+
+and_assoc : (a b c : Bool) → (a && (b && c)) ≡ ((a && b) && c)
+and_assoc true b c = refl
+and_assoc false b c = refl
+
+-- one digit more is counted
+pub once_more : (counts : List ℕ) (x : ℕ) → x < length counts → all_once (slice_set counts x (slice_index counts x + 1)) ≡ (all_once counts && slice_index counts x == 0)
+once_more [] x low = absurd (omega arith)
+once_more (zero ∷ counts) zero low = sym (and_true (all_once counts))
+once_more (suc c ∷ counts) zero low =
+    ⊎_elim
+    (λ t. absurd (omega (arith, leb-true _ _ t)))
+    (λ f. ap (λ b. b && all_once counts) f ∙ sym (ap (λ b. all_once (suc c ∷ counts) && b) (ne_eqb (suc c) 0 (λ e. omega arith)) ∙ and_false (all_once (suc c ∷ counts))))
+    (cases_Bool (nat_le (suc c + 1) 1))
+once_more (c ∷ counts) (suc x) low =
+    ap (λ b. nat_le c 1 && b) (once_more counts x (omega arith)) ∙ and_assoc (nat_le c 1) (all_once counts) (slice_index counts x == 0)
+
 -- the counts of a row say whether its digits differ
 module _ (xs counts : List ℕ) (ten : length counts ≡ 10) (each : (k : ℕ) → k < 10 → slice_index counts k ≡ occurs k xs) where
-  pub differ : Below 10 xs → list_all (λ count. nat_le count 1) counts ≡ different xs
+  pub differ : Below 10 xs → all_once counts ≡ different xs
   differ below =
       ⊎_elim
       (λ t. list_all-from_AllPass _ counts (λ k d h. le-leb _ _ (let was = get_or_default counts k d 0 h in omega (arith, was, each k (omega (arith, ten)), once_different xs t k))) ∙ sym t)
@@ -114,7 +183,7 @@ module _ (xs counts : List ℕ) (ten : length counts ≡ 10) (each : (k : ℕ) �
       (λ t.
       absurd (both_ways (different xs) f (different_once xs below (λ k h. omega (arith, each k h, leb-true _ _ (AllPass-from_list_all _ counts t k 0 (omega (arith, ten))))))))
       (λ g. g ∙ sym f)
-      (cases_Bool (list_all (λ count. nat_le count 1) counts)))
+      (cases_Bool (all_once counts)))
       (cases_Bool (different xs))
 
 total_shift : (n : ℕ) (f : ℕ → ℕ) → total (suc n) f ≡ f 0 + total n (λ k. f (suc k))

@@ -20,10 +20,10 @@ pub struct Board {
 }
 
 impl Board {
-    ghost use Rattle.std.specs.Prelude.{◌≡◌, ℕ, ◌^◌, ◌<◌, length, slice_index};
+    ghost use Rattle.std.specs.Prelude.{◌≡◌, ◌^◌, ◌<◌, length};
     ghost use Rattle.fault.specs.declared.Check.TheVariants.{GameParameters};
     ghost use Rattle.rule.specs.Making.{Makes};
-    ghost use Rattle.rule.specs.Digits.{last_digits, occurs, different};
+    ghost use Rattle.rule.specs.Digits.{last_digits, different};
     ghost use Rattle.rule.specs.Pegs.{board_fits, is_row, equal_places, shared, pairs, peg_answer};
     ghost use Rattle.rule.specs.Rules.{row_on};
 
@@ -55,23 +55,18 @@ impl Board {
         Row::of(number, u32::from(self.colours), u32::from(self.pegs))
     }
 
-    // How often each colour comes in the row of a number: an array by colour, since a rule takes no memory from the heap.
-    fn counts(&self, number: u32) -> [u8; 10]
-        ensures ten { length result ≡ 10 }
-        ensures each { (k : ℕ) → k < 10 → slice_index result k ≡ occurs k (row_on self.now number) }
-    {
-        let mut counts = [0u8; 10];
-        for colour in self.row(number) {
-            counts[colour as usize] += 1;
-        }
-        counts
-    }
-
-    // Whether no colour comes twice in the row of a number.
+    // Whether no colour comes twice in the row of a number. Colours are counted in an array, since a rule takes no memory
+    // from the heap.
     fn all_different(&self, number: u32) -> bool
         ensures { result ≡ different (row_on self.now number) }
     {
-        self.counts(number).iter().all(|count| *count <= 1)
+        let mut counts = [0u8; 10];
+        let mut different = true;
+        for colour in self.row(number) {
+            different &= counts[colour as usize] == 0;
+            counts[colour as usize] += 1;
+        }
+        different
     }
 
     // Whether a number is a row of this board.
@@ -91,16 +86,25 @@ impl Board {
             .count() as u8
     }
 
-    // How many pegs of the rows of two numbers can be paired by colour.
-    fn shared(&self, code: u32, guess: u32) -> u8
-        ensures { result ≡ shared self.now.colours (row_on self.now code) (row_on self.now guess) }
+    // At how many places the rows of two numbers agree, and how many of their pegs can be paired by colour: in one walk over both.
+    fn compare(&self, code: u32, guess: u32) -> (u8, u8)
+        ensures black { result.0 ≡ equal_places (row_on self.now code) (row_on self.now guess) }
+        ensures shared { result.1 ≡ shared self.now.colours (row_on self.now code) (row_on self.now guess) }
     {
-        let left = self.counts(code);
-        let right = self.counts(guess);
-        left.iter()
+        let mut black = 0u8;
+        let mut left = [0u8; 10];
+        let mut right = [0u8; 10];
+        for (own, other) in self.row(code).zip(self.row(guess)) {
+            black += u8::from(own == other);
+            left[own as usize] += 1;
+            right[other as usize] += 1;
+        }
+        let shared = left
+            .iter()
             .zip(right.iter())
             .map(|(left, right)| *left.min(right))
-            .sum()
+            .sum();
+        (black, shared)
     }
 
     pub(crate) fn pegs(&self) -> u8
@@ -127,8 +131,8 @@ impl Board {
     pub(crate) fn pair(&self, code: u32, guess: u32) -> u8
         ensures { result ≡ peg_answer self.now.pegs self.now.colours code guess }
     {
-        let black = self.black(code, guess);
-        let white = self.shared(code, guess) - black;
+        let (black, shared) = self.compare(code, guess);
+        let white = shared - black;
         // The blacks below this one have p + 1, p, .. pairs. The last pair stands one lower, as one before it cannot come.
         let before = black * (2 * self.pegs + 3 - black) / 2 + white;
         if black == self.pegs {

@@ -88,11 +88,8 @@ impl Set {
         let mut left = 0u32;
         let mut right = 0u32;
         for digit in Row::of(number, 3, self.coins) {
-            match Pan::of_digit(digit) {
-                Pan::Left => left += 1,
-                Pan::Right => right += 1,
-                Pan::Aside => {}
-            }
+            left += u32::from(digit == Pan::Left as u32);
+            right += u32::from(digit == Pan::Right as u32);
         }
         left == right && left >= 1
     }
