@@ -30,11 +30,13 @@ fn groups(heap: Global, count: u32) -> Result<Vec<u8>, AllocError> {
         span: count.saturating_mul(10),
         ..LEAF
     };
-    (0..count)
-        .flat_map(group)
-        .chain(iter::once(split))
-        .flat_map(<[u8; 12]>::from)
-        .collect(heap)
+    let room = (count as usize).saturating_mul(120).saturating_add(12);
+    let mut bytes = Vec::with_capacity(heap, room)?;
+    for record in (0..count).flat_map(group).chain(iter::once(split)) {
+        // In one piece: byte by byte takes longer.
+        bytes.extend_from_slice(&<[u8; 12]>::from(record))?;
+    }
+    Ok(bytes)
 }
 
 fn read_often(file: &[u8], rounds: u32) -> u64 {

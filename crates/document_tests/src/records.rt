@@ -4,6 +4,17 @@ use samples::LEAF;
 use std::alloc::{AllocError, Global};
 use std::iter;
 
+// Room for so many records and a trailer after them.
+fn room(heap: Global, count: u32) -> Result<Vec<u8>, AllocError> {
+    let bytes = (count as usize).saturating_mul(12).saturating_add(24);
+    Vec::with_capacity(heap, bytes)
+}
+
+// A record is put in one piece: byte by byte takes longer.
+fn put(bytes: &mut Vec<u8>, record: Record) -> Result<(), AllocError> {
+    bytes.extend_from_slice(&<[u8; 12]>::from(record))
+}
+
 // Guesses one beneath the other, with a leaf at the bottom.
 pub(crate) fn chain(heap: Global, count: u32) -> Result<Vec<u8>, AllocError> {
     let guesses = (1..count).map(|span| Record {
@@ -11,10 +22,11 @@ pub(crate) fn chain(heap: Global, count: u32) -> Result<Vec<u8>, AllocError> {
         span,
         ..LEAF
     });
-    iter::once(LEAF)
-        .chain(guesses)
-        .flat_map(<[u8; 12]>::from)
-        .collect(heap)
+    let mut bytes = room(heap, count)?;
+    for record in iter::once(LEAF).chain(guesses) {
+        put(&mut bytes, record)?;
+    }
+    Ok(bytes)
 }
 
 // One split with all the other records directly beneath it.
@@ -29,10 +41,11 @@ pub(crate) fn row(heap: Global, count: u32) -> Result<Vec<u8>, AllocError> {
         span: count.saturating_sub(1),
         ..LEAF
     };
-    counts
-        .chain(iter::once(split))
-        .flat_map(<[u8; 12]>::from)
-        .collect(heap)
+    let mut bytes = room(heap, count)?;
+    for record in counts.chain(iter::once(split)) {
+        put(&mut bytes, record)?;
+    }
+    Ok(bytes)
 }
 
 // A refutation's trailer without a title, for game 7.
