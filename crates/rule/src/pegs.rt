@@ -1,8 +1,13 @@
 // The game that answers black and white: pegs in place, and pegs of a right colour elsewhere.
-ghost use Rattle.rule.specs.Pegs.{peg_answers, peg_answer};
+ghost use Rattle.std.specs.Prelude.{◌≡◌};
+ghost use Rattle.fault.specs.declared.Check.TheVariants.{GameParameters};
+ghost use Rattle.rule.specs.Making.{Makes};
+ghost use Rattle.rule.specs.Rules.{pegs_of};
+ghost use Rattle.rule.specs.Pegs.{board_fits, pegs as peg_game, peg_answers, peg_answer};
 
 use crate::board::Board;
 use crate::row_game::{Marking, RowGame};
+use fault::Fault;
 
 #[derive(Clone, Copy)]
 pub struct BlackAndWhite;
@@ -26,3 +31,11 @@ impl Marking for BlackAndWhite {
 }
 
 pub type Pegs = RowGame<BlackAndWhite>;
+
+impl Pegs {
+    pub fn new(pegs: u32, colours: u32, repeats: bool) -> Result<Pegs, Fault>
+        ensures { Makes result (board_fits pegs colours repeats) GameParameters (λ rule. pegs_of rule ≡ peg_game pegs colours repeats) }
+    {
+        RowGame::made(pegs, colours, repeats)
+    }
+}

@@ -36,7 +36,7 @@ pub struct RowGame<M> {
 }
 
 impl<M: Marking> RowGame<M> {
-    pub fn new(pegs: u32, colours: u32, repeats: bool) -> Result<RowGame<M>, Fault>
+    pub(crate) fn made(pegs: u32, colours: u32, repeats: bool) -> Result<RowGame<M>, Fault>
         ensures { Makes result (board_fits pegs colours repeats) GameParameters
             (λ rule. rows_of M.answers M.answer rule ≡ row_game M.answers M.answer pegs colours repeats) }
     {
