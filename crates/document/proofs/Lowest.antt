@@ -1,6 +1,10 @@
 -- The lowest record that is blamed, found from every record's own look. Assumes nothing.
 use Rattle.std.proofs.Common.{◌≡◌, ℕ, zero, suc, ◌+◌, ◌-◌, ◌<◌, ◌≤◌, min, List, [], ◌∷◌, Some, None, Option, Result, Ok, Err, sym, refl, ap, ◌∙◌, subst, fold, inl, inr, ◌⊎◌, ⊎_elim, arith}
-use Rattle.std.specs.List.{filter_map, reduce, range_with_len, cons_option}
+use Rattle.std.specs.Iterator.{Drains}
+use Rattle.std.specs.Option.{MatchOption}
+use Rattle.std.proofs.lemmas.Iterator.{YieldsList}
+use Rattle.std.proofs.lemmas.Iterator.Consumers.{reduce_from_yields_List}
+use Rattle.std.specs.List.{filter_map, reduce, range_with_len, cons_option, FoldsTo}
 use Rattle.std.proofs.lemmas.Bool.{cases_lt, cases_eq}
 use Rattle.document.specs.declared.kind.Kind.{Kind}
 use Rattle.document.specs.declared.record.Record.{Record}
@@ -49,6 +53,20 @@ reduce_one_more : (o : Option ℕ) (xs : List ℕ) → reduce min (cons_option o
 reduce_one_more None xs = refl
 reduce_one_more (Some p) [] = refl
 reduce_one_more (Some p) (x ∷ xs) = ap Some (min_fold p x xs)
+
+-- what `reduce` answers, where its closure takes two places together as h does
+module _ {F : Type 0} {turn : F × ℕ → ℕ → F × ℕ → Type 0} (h : ℕ → ℕ → ℕ) where
+  together : ((p : F × ℕ) (x : ℕ) (q : F × ℕ) → turn p x q → q.1 ≡ h p.1 x) → (xs : List ℕ) (p q : F × ℕ) → FoldsTo turn p xs q → FoldsTo (λ p z c. c ≡ h p z) p.1 xs q.1
+  together acts [] p q turns = ap (λ t. t.1) turns
+  together acts (x ∷ xs) p q turns = (turns.0.1, acts p x turns.0 turns.1, together acts xs turns.0 q turns.2)
+
+  pub reduced : {S : Type 0} {steps : S → Option ℕ → S → Type 0} {s : S} {all : List ℕ} (f : F) (r : Option ℕ)
+      → MatchOption r (Drains steps s []) (λ y. (x : ℕ) × (xs : List ℕ) × (last : F) × Drains steps s (x ∷ xs) × FoldsTo turn (f, x) xs (last, y))
+      → YieldsList steps (λ x. x) s all
+      → ((p : F × ℕ) (x : ℕ) (q : F × ℕ) → turn p x q → q.1 ≡ h p.1 x)
+      → r ≡ reduce h all
+  reduced f None ran road acts = reduce_from_yields_List h _ None ran road
+  reduced f (Some y) ran road acts = reduce_from_yields_List h _ (Some y) (ran.0, ran.1, ran.3, together acts ran.1 (f, ran.0) (ran.2, y) ran.4) road
 
 module _ (kind : Kind) (at : ℕ → Record) where
   module _ (n i : ℕ) (fits : (at i).span ≤ i) where

@@ -61,6 +61,6 @@ impl<'a> Records<'a> {
     {
         (0..self.groups.len())
             .filter_map(|i| self.lowest_blamed(i))
-            .min()
+            .reduce(|lowest, place| lowest.min(place))
     }
 }
