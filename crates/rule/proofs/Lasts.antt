@@ -1,5 +1,6 @@
 -- What the digits of a number tell, taken from the last to the first. Assumes nothing.
 use Rattle.std.proofs.Common.{◌≡◌, ℕ, zero, suc, ◌+◌, ◌-◌, ◌/◌, ◌%◌, ◌^◌, ◌<◌, ◌≤◌, min, ◌==◌, Bool, true, false, ◌&&◌, cond, List, [], ◌∷◌, ◌++◌, length, replicate, slice_index, slice_set, nat_le, sym, refl, ap, subst, ◌∙◌, ⊎_elim, arith, div-one, length-set}
+use Rattle.std.proofs.Math.Bool.{and-true, and-false, and_assoc}
 use Rattle.std.proofs.Math.Nat.{pow-zero, pow-succ', div-div-eq-div-mul}
 use Rattle.std.proofs.lemmas.Nat.{mod_below}
 use Rattle.std.proofs.lemmas.List.Sums.{sum_by-cons}
@@ -148,29 +149,17 @@ different_once (x ∷ xs) below once =
 abbrev pub all_once : List ℕ → Bool
 all_once counts = list_all (λ count. nat_le count 1) counts
 
-and_false : (b : Bool) → (b && false) ≡ false
-and_false true = refl
-and_false false = refl
-
-and_true : (b : Bool) → (b && true) ≡ b
-and_true true = refl
-and_true false = refl
-
-and_assoc : (a b c : Bool) → (a && (b && c)) ≡ ((a && b) && c)
-and_assoc true b c = refl
-and_assoc false b c = refl
-
 -- one digit more is counted
 pub once_more : (counts : List ℕ) (x : ℕ) → x < length counts → all_once (slice_set counts x (slice_index counts x + 1)) ≡ (all_once counts && slice_index counts x == 0)
 once_more [] x low = absurd (omega arith)
-once_more (zero ∷ counts) zero low = sym (and_true (all_once counts))
+once_more (zero ∷ counts) zero low = sym (and-true (all_once counts))
 once_more (suc c ∷ counts) zero low =
     ⊎_elim
     (λ t. absurd (omega (arith, leb-true _ _ t)))
-    (λ f. ap (λ b. b && all_once counts) f ∙ sym (ap (λ b. all_once (suc c ∷ counts) && b) (ne_eqb (suc c) 0 (λ e. omega arith)) ∙ and_false (all_once (suc c ∷ counts))))
+    (λ f. ap (λ b. b && all_once counts) f ∙ sym (ap (λ b. all_once (suc c ∷ counts) && b) (ne_eqb (suc c) 0 (λ e. omega arith)) ∙ and-false (all_once (suc c ∷ counts))))
     (cases_Bool (nat_le (suc c + 1) 1))
 once_more (c ∷ counts) (suc x) low =
-    ap (λ b. nat_le c 1 && b) (once_more counts x (omega arith)) ∙ and_assoc (nat_le c 1) (all_once counts) (slice_index counts x == 0)
+    ap (λ b. nat_le c 1 && b) (once_more counts x (omega arith)) ∙ sym (and_assoc (nat_le c 1) (all_once counts) (slice_index counts x == 0))
 
 -- the counts of a row say whether its digits differ
 module _ (xs counts : List ℕ) (ten : length counts ≡ 10) (each : (k : ℕ) → k < 10 → slice_index counts k ≡ occurs k xs) where
